@@ -11,7 +11,7 @@ from crates import TOP
 
 LIST = TOP / "tools/doubles.txt"
 
-MOST = 82
+MOST = 80
 """The most names that the list may have. Whoever takes one off lowers this number."""
 
 PATTERNS = {

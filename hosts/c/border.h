@@ -10,7 +10,7 @@ typedef struct { uint32_t tag, place; uint64_t number; } handle;
 /* As `Call` of call.rt; a slice is a pointer, which is never null, and a length. */
 typedef struct {
     uint32_t ask, status, kind, fraction;
-    handle program, context, environment;
+    handle program, context, environment, run;
     int64_t number;
     size_t place, line, column, length;
     const uint8_t *name;
@@ -22,7 +22,7 @@ typedef struct {
 } call;
 
 #define AT(of, field, place) _Static_assert(offsetof(of, field) == (place), "as in the engine: " #field)
-_Static_assert(sizeof(handle) == 16 && sizeof(call) == 152, "as in the engine");
+_Static_assert(sizeof(handle) == 16 && sizeof(call) == 168, "as in the engine");
 AT(handle, tag, 0);
 AT(handle, place, 4);
 AT(handle, number, 8);
@@ -33,17 +33,18 @@ AT(call, fraction, 12);
 AT(call, program, 16);
 AT(call, context, 32);
 AT(call, environment, 48);
-AT(call, number, 64);
-AT(call, place, 72);
-AT(call, line, 80);
-AT(call, column, 88);
-AT(call, length, 96);
-AT(call, name, 104);
-AT(call, name_length, 112);
-AT(call, text, 120);
-AT(call, text_length, 128);
-AT(call, room, 136);
-AT(call, room_length, 144);
+AT(call, run, 64);
+AT(call, number, 80);
+AT(call, place, 88);
+AT(call, line, 96);
+AT(call, column, 104);
+AT(call, length, 112);
+AT(call, name, 120);
+AT(call, name_length, 128);
+AT(call, text, 136);
+AT(call, text_length, 144);
+AT(call, room, 152);
+AT(call, room_length, 160);
 #undef AT
 
 size_t expr_c_size(void);
@@ -62,7 +63,7 @@ enum ask {
     /* begin: asks, by hosts/border.py --write */
     COMPILE, NAMES, RUN, CONTEXT, CONTEXT_OF, SET, PUSH, ARRAY, MAP, UNBUILD, LOOK, DOWN, UP, KEY, SHOWN, TEXT, JSON, SAID,
     ENVIRONMENT, FIXED_ZONE, ZONE_RULE, NOW, DROP_PROGRAM, DROP_CONTEXT, DROP_ENVIRONMENT, CLEAR, NAME, ANSWER, REFUSE,
-    WAITING_CALL, LIMIT, UNLIMITED, USES_ENV, FUNCTIONS, FILL_MISSING, VERSIONS, PROGRAM_TEXT, USED
+    WAITING_CALL, LIMIT, UNLIMITED, USES_ENV, FUNCTIONS, FILL_MISSING, VERSIONS, PROGRAM_TEXT, USED, CANCEL
     /* end: asks */
 };
 /* The kinds of a call about limits, as `limit_numbered` of crates/expr_exchange/src/limit.rt. */

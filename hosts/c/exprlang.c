@@ -13,6 +13,7 @@
 _Static_assert(sizeof(expr_program) == 16 && offsetof(expr_program, place) == 4 && offsetof(expr_program, number) == 8, "as in _library.py");
 _Static_assert(sizeof(expr_context) == 16 && offsetof(expr_context, place) == 4 && offsetof(expr_context, number) == 8, "as in _library.py");
 _Static_assert(sizeof(expr_environment) == 16 && offsetof(expr_environment, place) == 4 && offsetof(expr_environment, number) == 8, "as in _library.py");
+_Static_assert(sizeof(expr_waiting) == 16 && offsetof(expr_waiting, place) == 4 && offsetof(expr_waiting, number) == 8, "as in _library.py");
 _Static_assert(sizeof(expr_place) == 24 && offsetof(expr_place, byte) == 0 && offsetof(expr_place, line) == 8 &&
                offsetof(expr_place, column) == 16, "as in _library.py");
 _Static_assert(sizeof(expr_answer) == 24 && offsetof(expr_answer, kind) == 0 && offsetof(expr_answer, fraction) == 4 &&
@@ -27,6 +28,7 @@ struct expr_engine {
     size_t room_length;
     const char *misuse;  /* what was wrong with the last call, if this file found it */
     expr_status last;    /* how the last call ended */
+    handle waits;        /* the run that asked last */
     call call;
 };
 
@@ -49,6 +51,7 @@ expr_engine *expr_open(void) {
     engine->inside = malloc(expr_c_size()); /* at a multiple of 16, as malloc's blocks are */
     if (engine->room && engine->inside) {
         expr_c_open(engine->inside, expr_c_tag());
+        engine->waits = (handle)FINDS_NOTHING;
         return engine;
     }
     free(engine->inside);
@@ -71,6 +74,7 @@ static call *begun(expr_engine *engine, enum ask ask) {
 static expr_status asked(expr_engine *engine) {
     expr_c_call(engine->inside, &engine->call);
     if (engine->call.ask != SAID) engine->last = (expr_status)engine->call.status;
+    if (engine->call.status == EXPR_ASKS) engine->waits = engine->call.run;
     return (expr_status)engine->call.status;
 }
 
@@ -91,6 +95,7 @@ static expr_status misused(expr_engine *engine, const char *why) {
 static handle of_program(expr_program program) { return (handle){program.tag, program.place, program.number}; }
 static handle of_context(expr_context context) { return (handle){context.tag, context.place, context.number}; }
 static handle of_environment(expr_environment it) { return (handle){it.tag, it.place, it.number}; }
+static handle of_waiting(expr_waiting run) { return (handle){run.tag, run.place, run.number}; }
 
 /* What is said, whole and with a zero byte behind it: asked `again` with room enough where there was too little. Null
  * where there is no memory. */
@@ -154,7 +159,7 @@ const char *expr_message(expr_engine *engine) {
 
 const char *expr_status_word(expr_status status) {
     static const char *const words[] = {"ok",        "syntax",         "literal", "evaluation", "pattern",
-                                        "out of memory", "unknown handle", "misuse",  "asks",       "differs",
+                                        "out of memory", "unknown handle", "misuse",  "asks",
                                         "nesting limit", "patterns limit", "steps limit", "depth limit", "size limit"};
     return (unsigned)status < sizeof words / sizeof *words ? words[status] : "?";
 }
@@ -538,10 +543,21 @@ expr_status expr_add_name(expr_engine *engine, expr_environment environment, con
     return asked(engine);
 }
 
-expr_status expr_asked(expr_engine *engine, const char **name, expr_answer *arguments) {
+expr_waiting expr_waits(const expr_engine *engine) {
+    handle it = engine ? engine->waits : (handle)FINDS_NOTHING;
+    return (expr_waiting){it.tag, it.place, it.number};
+}
+
+static expr_status on_waiting(expr_engine *engine, enum ask ask, expr_waiting run) {
+    if (!engine) return EXPR_MISUSE;
+    begun(engine, ask)->run = of_waiting(run);
+    return asked(engine);
+}
+
+expr_status expr_asked(expr_engine *engine, expr_waiting run, const char **name, expr_answer *arguments) {
     if (name) *name = "";
     if (arguments) *arguments = (expr_answer){EXPR_NIL, 0, 0, NULL};
-    expr_status status = asked_alone(engine, WAITING_CALL);
+    expr_status status = on_waiting(engine, WAITING_CALL, run);
     if (status != EXPR_OK) return status;
     if (arguments) *arguments = (expr_answer){EXPR_ARRAY, 0, engine->call.number, NULL};
     if (!name) return EXPR_OK;
@@ -550,14 +566,17 @@ expr_status expr_asked(expr_engine *engine, const char **name, expr_answer *argu
     return said ? EXPR_OK : EXPR_MEMORY;
 }
 
-expr_status expr_reply(expr_engine *engine, expr_answer *answer) {
-    return told(engine, asked_alone(engine, ANSWER), LOOK, answer);
+expr_status expr_reply(expr_engine *engine, expr_waiting run, expr_answer *answer) {
+    return told(engine, on_waiting(engine, ANSWER, run), LOOK, answer);
 }
 
-expr_status expr_refuse(expr_engine *engine, const char *text, size_t length, expr_answer *answer) {
-    if (answer) *answer = (expr_answer){EXPR_NIL, 0, 0, NULL};
+expr_status expr_refuse(expr_engine *engine, expr_waiting run, expr_status kind, const char *text, size_t length) {
     if (!engine) return EXPR_MISUSE;
-    begun(engine, REFUSE);
+    call *c = begun(engine, REFUSE);
+    c->run = of_waiting(run);
+    c->kind = (uint32_t)kind;
     set_text(engine, text, length);
-    return told(engine, asked(engine), LOOK, answer);
+    return asked(engine);
 }
+
+expr_status expr_cancel(expr_engine *engine, expr_waiting run) { return on_waiting(engine, CANCEL, run); }

@@ -46,8 +46,8 @@
  *
  * What an untrusted string can still do, and what you bound yourself:
  *   - It can be long. Reading takes up to 420 nanoseconds and 190 bytes of memory for each byte, as measured.
- *   - It can call your functions, if you add some. Each reply begins the run again, with all the steps of the limit. So
- *     count the replies, and stop a run that asks too often. What your functions do is up to you.
+ *   - It can call your functions, if you add some, once for some steps of the limit. So count the replies, and cancel a
+ *     run that asks too often. What your functions do is up to you.
  *   - It can be JSON that you read. Then it can choose many keys with one hash, which is slow, and nest up to 127 levels. What
  *     is in a context counts towards no limit until a program makes something of it. Values that you build yourself take
  *     stack by their depth.
@@ -73,6 +73,8 @@ typedef struct expr_engine expr_engine;
 typedef struct { uint32_t tag, place; uint64_t number; } expr_program;
 typedef struct { uint32_t tag, place; uint64_t number; } expr_context;
 typedef struct { uint32_t tag, place; uint64_t number; } expr_environment;
+/* A run that waits for your reply: see expr_add_name. */
+typedef struct { uint32_t tag, place; uint64_t number; } expr_waiting;
 
 /* No context: a program finds no names. */
 static const expr_context EXPR_NO_CONTEXT = {0, 0, UINT64_MAX};
@@ -93,7 +95,6 @@ typedef enum {
     EXPR_UNKNOWN,    /* a handle that finds nothing in this engine */
     EXPR_MISUSE,     /* a call that makes no sense: bytes that are not UTF-8, an item that does not exist, a null pointer */
     EXPR_ASKS,       /* a run waits for your reply: see expr_add_name */
-    EXPR_DIFFERS,    /* a run came to another call than the one that you replied to: see expr_add_name */
     EXPR_LIMIT_NESTING,  /* the tree of a string is higher than the limit: see expr_set_limits */
     EXPR_LIMIT_PATTERNS, /* the literal patterns of a string weigh more than the limit */
     EXPR_LIMIT_STEPS,    /* a run takes more steps than the limit */
@@ -187,10 +188,10 @@ expr_status expr_set_limits(expr_engine *engine, const expr_limits *limits);
 /* Lifts all limits, for strings that you trust. Then a run takes the time, memory and stack that its string asks for. */
 expr_status expr_set_unlimited(expr_engine *engine);
 /* Says what the last run used of its limits, whatever it ended with: its steps, and the most that it held at once. Of a run that
- * stopped at a limit, this is what it had used until then. After expr_reply and expr_refuse it is of that turn, which began the
- * run again. Without limits nothing is counted, and both are 0, as they are before the first run and after expr_clear. Room
- * that a call asks for and doesn't fill isn't in them. So the least limits that a run needs may be higher: allow ten times what
- * your own strings use. Either pointer may be null. */
+ * stopped at a limit, this is what it had used until then. After expr_reply it is of the whole run, since its start. Without
+ * limits nothing is counted, and both are 0, as they are before the first run and after expr_clear. Room that a call asks for
+ * and doesn't fill isn't in them. So the least limits that a run needs may be higher: allow ten times what your own strings
+ * use. Either pointer may be null. */
 expr_status expr_used(expr_engine *engine, int64_t *steps, int64_t *size);
 
 /* --- programs --- */
@@ -341,44 +342,49 @@ expr_status expr_drop_environment(expr_engine *engine, expr_environment environm
 
 /* --- functions of the host ---
  *
- * You can answer calls of functions yourself. A run that comes to such a call ends with EXPR_ASKS, and the engine waits for
- * your reply. You look at the call (expr_asked). Then you build a value for expr_reply, or end the call with an error
- * (expr_refuse). Each of the two goes on with the run and ends as expr_run does, with EXPR_ASKS again at the next call:
+ * You can answer calls of functions yourself. A run that comes to such a call ends with EXPR_ASKS, and waits for your reply.
+ * expr_waits says which run it is. You look at its call (expr_asked). Then you build a value for expr_reply: the run goes on from
+ * there, and ends as expr_run does, with EXPR_ASKS again at the next call. Or you end the run with an error (expr_refuse), or with
+ * nothing (expr_cancel):
  *
  *     expr_status status = expr_run(engine, rule, environment, order, &answer);
+ *     expr_waiting run = expr_waits(engine);
  *     while (status == EXPR_ASKS) {
  *         expr_answer article;
- *         expr_asked(engine, NULL, NULL);
+ *         expr_asked(engine, run, NULL, NULL);
  *         if (expr_down(engine, 0, &article) == EXPR_OK && article.kind == EXPR_STRING && !strcmp(article.text, "pen")) {
  *             expr_push_integer(engine, 3);
- *             status = expr_reply(engine, &answer);
+ *             status = expr_reply(engine, run, &answer);
  *         } else {
- *             status = expr_refuse(engine, "no such article", EXPR_Z, &answer);
+ *             status = expr_refuse(engine, run, EXPR_EVALUATION, "no such article", EXPR_Z);
  *         }
  *     }
  *
- * After each reply the run begins again, with the replies that it has, and within the limits as they are then. So a run with n
- * calls runs n + 1 times, and may take n + 1 times the steps: bound n for untrusted strings. What the run depends on should
- * stay the same meanwhile: its context, and the zones, the time and the names of its environment. If a call differs from the
- * one that you replied to at that point, in its name or its arguments, the run ends with EXPR_DIFFERS.
+ * A call costs the same wherever the run makes it, and nothing is done twice. The limits are those that you had set when the run
+ * began. They span the whole run, with your replies.
  *
- * An engine waits for one reply at a time. expr_run and expr_eval begin another run, and expr_clear forgets the one that waits.
- * All other calls are fine meanwhile. */
+ * A run that waits holds copies of what it needs from its context, so that it keeps no more than it still uses. All calls are fine
+ * meanwhile. You may run other programs, and any number of runs may wait, each under a handle of its own, which stays the same from
+ * reply to reply. But drop or change nothing that a run needs. If you dropped its program, its context or its environment, replies
+ * end with EXPR_UNKNOWN. If you changed its context or its environment, they end with EXPR_MISUSE. The run waits on then, until you
+ * cancel it. expr_clear and expr_close drop all runs that wait. */
 
 /* Adds a name to the functions of an environment that you answer yourself. It must be a word of the language. Your function
  * goes before one of the language with this name. A program in the call, as in f(xs, {# + 1}), is never run. */
 expr_status expr_add_name(expr_engine *engine, expr_environment environment, const char *name, size_t name_length);
-/* Looks at the arguments of the call that waits: an array of copies, instead of the answer (see expr_down). Says the name
- * of its function, which stays there until the next call on the engine. Both pointers may be null. If no call waits it is
- * EXPR_MISUSE. */
-expr_status expr_asked(expr_engine *engine, const char **name, expr_answer *arguments);
-/* The call that waits returns the value that you built last (see expr_push_nil), and its run goes on. It is EXPR_MISUSE if no
- * call waits or you built nothing, and EXPR_UNKNOWN if you dropped the program, the context or the environment of the run.
- * Then the call still waits, if there is one. After EXPR_MEMORY begin the run again. `answer` may be null. */
-expr_status expr_reply(expr_engine *engine, expr_answer *answer);
-/* The call that waits ends with an error, and its run goes on. The run then ends with EXPR_EVALUATION and your string as the
- * message, as it does for an error of a function of the language. Otherwise as expr_reply. */
-expr_status expr_refuse(expr_engine *engine, const char *text, size_t length, expr_answer *answer);
+/* The run that asked last: right after a call ended with EXPR_ASKS, the run that waits. */
+expr_waiting expr_waits(const expr_engine *engine);
+/* Looks at the arguments of the call at which a run waits: an array of copies, instead of the answer (see expr_down). Says the
+ * name of its function, which stays there until the next call on the engine. Both pointers may be null. */
+expr_status expr_asked(expr_engine *engine, expr_waiting run, const char **name, expr_answer *arguments);
+/* The call at which a run waits returns the value that you built last (see expr_push_nil), and the run goes on. It is EXPR_MISUSE
+ * if you built nothing: then the run waits on. After EXPR_MEMORY the run is over. `answer` may be null. */
+expr_status expr_reply(expr_engine *engine, expr_waiting run, expr_answer *answer);
+/* A run that waits ends with an error, which is this call's own: EXPR_EVALUATION or EXPR_LITERAL with your string as the message,
+ * or EXPR_MEMORY. With any other kind it is EXPR_MISUSE, and the run waits on. */
+expr_status expr_refuse(expr_engine *engine, expr_waiting run, expr_status kind, const char *text, size_t length);
+/* Drops a run that waits: its handle finds nothing from now on. */
+expr_status expr_cancel(expr_engine *engine, expr_waiting run);
 
 /* --- which call may end how ---
  *
@@ -403,13 +409,15 @@ expr_status expr_refuse(expr_engine *engine, const char *text, size_t length, ex
  *     expr_up                                                     MISUSE
  *     expr_shown, expr_text                                       MEMORY, as a null pointer
  *     expr_json                                                   EVALUATION MEMORY, as a null pointer
- *     expr_run                                                    EVALUATION PATTERN MEMORY UNKNOWN ASKS DIFFERS and
+ *     expr_run                                                    EVALUATION PATTERN MEMORY UNKNOWN ASKS and
  *                                                                 LIMIT_STEPS LIMIT_DEPTH LIMIT_SIZE
  *     expr_eval                                                   what expr_compile and expr_run end with
  *     expr_add_fixed_zone, expr_add_zone_rule                     EVALUATION MEMORY MISUSE UNKNOWN
  *     expr_add_name, expr_set_now                                 MEMORY MISUSE UNKNOWN
- *     expr_asked                                                  MEMORY MISUSE
- *     expr_reply, expr_refuse                                     MISUSE, and what expr_run ends with */
+ *     expr_asked                                                  MEMORY UNKNOWN
+ *     expr_reply                                                  MISUSE, and what expr_run ends with
+ *     expr_refuse                                                 LITERAL EVALUATION MEMORY MISUSE UNKNOWN
+ *     expr_cancel                                                 UNKNOWN */
 
 #ifdef __cplusplus
 }

@@ -8,15 +8,16 @@ static const struct { const char *article; int64_t cents; } PRICES[] = {{"pen", 
 /* The reply to the call that waits: the price of its one argument. */
 static expr_status price(expr_engine *engine, expr_answer *answer) {
     expr_answer arguments, article;
-    if (expr_asked(engine, NULL, &arguments) == EXPR_OK && arguments.number == 1 &&
+    expr_waiting run = expr_waits(engine);
+    if (expr_asked(engine, run, NULL, &arguments) == EXPR_OK && arguments.number == 1 &&
         expr_down(engine, 0, &article) == EXPR_OK && article.kind == EXPR_STRING) {
         for (size_t i = 0; i < sizeof PRICES / sizeof *PRICES; i++) {
             if (strcmp(PRICES[i].article, article.text)) continue;
             expr_push_integer(engine, PRICES[i].cents);
-            return expr_reply(engine, answer);
+            return expr_reply(engine, run, answer);
         }
     }
-    return expr_refuse(engine, "no such article", EXPR_Z, answer);
+    return expr_refuse(engine, run, EXPR_EVALUATION, "no such article", EXPR_Z);
 }
 
 int main(int count, char **words) {

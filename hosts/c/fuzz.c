@@ -126,23 +126,32 @@ static void limit_any(void) {
 /* How a run may end; one that ends waits for nothing. */
 static void ended(expr_status status, const char *what) {
     if (EXPR_IS_LIMIT(status) && (is_unlimited || status < EXPR_LIMIT_STEPS)) FAIL(what);
-    if (EXPR_IS_LIMIT(status) && expr_asked(engine, NULL, NULL) != EXPR_MISUSE) FAIL("a run that stopped waits");
 }
 
-/* Replies to calls, or to none, and changes what the run depends on. */
+/* Runs that wait, or that are over. */
+static expr_waiting waits[16];
+
+/* Replies to calls, or to none, and changes what runs depend on. */
 static void reply_any(void) {
     expr_answer part;
     for (uint32_t steps = next(6); steps > 0; steps--) {
         const char *name;
-        expr_status status = expr_asked(engine, &name, &part);
-        if (status != EXPR_OK && status != EXPR_MISUSE) FAIL("asked");
+        expr_waiting *run = &waits[next(16)];
+        if (next(3)) *run = expr_waits(engine);
+        expr_status status = expr_asked(engine, *run, &name, &part);
+        if (status != EXPR_OK && status != EXPR_UNKNOWN) FAIL("asked");
         if (status == EXPR_OK && (strcmp(name, "asks") || part.kind != EXPR_ARRAY)) FAIL("asked");
         if (next(9) == 0) expr_set_integer(engine, contexts[next(16)], "x", EXPR_Z, next(100));
         if (next(30) == 0) expr_drop_program(engine, programs[next(16)]);
         if (next(4)) expr_push_integer(engine, next(9));
-        status = next(5) ? expr_reply(engine, &part) : expr_refuse(engine, "\xc3\xa9", next(3), &part);
+        int waited = status == EXPR_OK;
+        status = next(5)   ? expr_reply(engine, *run, &part)
+                 : next(3) ? expr_refuse(engine, *run, (expr_status)next(8), "\xc3\xa9", next(3))
+                           : expr_cancel(engine, *run);
+        if (!waited && status != EXPR_UNKNOWN && status != EXPR_MISUSE) FAIL("a run that is over goes on");
         endings[2][status]++;
         ended(status, "reply");
+        if (EXPR_IS_LIMIT(status) && expr_asked(engine, *run, NULL, NULL) != EXPR_UNKNOWN) FAIL("a run that stopped waits");
     }
 }
 
@@ -194,7 +203,7 @@ static void run_any(uint32_t turn) {
     expr_answer answer;
     expr_environment environment = next(4) ? host : EXPR_NO_ENVIRONMENT;
     expr_status status = expr_run(engine, program, environment, context, &answer);
-    if (status == EXPR_MISUSE || status == EXPR_DIFFERS) FAIL("run"); /* memory is refused to ranges without an end */
+    if (status == EXPR_MISUSE) FAIL("run"); /* memory is refused to ranges without an end */
     endings[1][status]++;
     ended(status, "run");
     if (status != EXPR_UNKNOWN) used_within();
@@ -235,19 +244,19 @@ static void forge_any(void *forged) {
     static const int64_t NUMBERS[] = {0, 1, 2, 100, 100000, -1, INT64_MIN, INT64_MAX};
     /* handles that were given stay in it, and so do others */
     const handle NOTHING = {0, 0, UINT64_MAX};
-    static call c = {.program = NOTHING, .context = NOTHING, .environment = NOTHING};
+    static call c = {.program = NOTHING, .context = NOTHING, .environment = NOTHING, .run = NOTHING};
     uint8_t room[64];
     size_t length;
     char *text = any_text(&length);
-    c.ask = next(50) ? next(USED + 3) : UINT32_MAX - next(9);
+    c.ask = next(50) ? next(CANCEL + 3) : UINT32_MAX - next(9);
     if (c.ask == CLEAR && next(50)) c.ask = LIMIT;
     c.status = next(99);
     c.kind = next(3) ? next(16) : UINT32_MAX - next(9);
     c.fraction = next(9) ? 0 : UINT32_MAX - next(9);
     c.number = next(3) ? NUMBERS[next(8)] : next(50);
-    handle *any[] = {&c.program, &c.context, &c.environment};
-    if (next(9) == 0) *any[next(3)] = (handle){next(4), next(9), next(99)};
-    if (next(9) == 0) *any[next(3)] = (handle){next(4), UINT32_MAX - next(3), UINT64_MAX - next(3)};
+    handle *any[] = {&c.program, &c.context, &c.environment, &c.run};
+    if (next(9) == 0) *any[next(4)] = (handle){next(4), next(9), next(99)};
+    if (next(9) == 0) *any[next(4)] = (handle){next(4), UINT32_MAX - next(3), UINT64_MAX - next(3)};
     c.name = c.text = (const uint8_t *)text;
     c.name_length = next(2) ? length : next((uint32_t)length + 1);
     c.text_length = length;
@@ -261,7 +270,7 @@ static void forge_any(void *forged) {
     if (c.ask == UNLIMITED && c.status != EXPR_OK) FAIL("no limits");
     if (c.ask == USED && c.status != (is_used ? EXPR_OK : EXPR_MISUSE)) FAIL("what was used");
     if (is_used && c.number < 0) FAIL("what was used");
-    if (c.ask > USED && c.status != EXPR_MISUSE) FAIL("nothing is asked");
+    if (c.ask > CANCEL && c.status != EXPR_MISUSE) FAIL("nothing is asked");
     endings[3][c.status]++;
     free(text);
 }
@@ -282,6 +291,7 @@ int main(int count, char **words) {
     limits = EXPR_LIMITS_UNTRUSTED;
     memset(programs, 0xff, sizeof programs);
     memset(contexts, 0xff, sizeof contexts);
+    memset(waits, 0xff, sizeof waits);
     for (uint32_t turn = 0; turn < turns; turn++) {
         compile_any(next(16));
         if (next(4) == 0) fill_any(next(16));

@@ -205,49 +205,64 @@ static int settings(expr_engine *engine) {
     return 0;
 }
 
-/* A run that waits: each turn has the limits anew, and one that stops waits for nothing. */
+/* A run that waits: its limits span all of it, replies included, and are those that were set when it began. */
 static int waiting(expr_engine *engine) {
     const char *text = "all(1..1000, {# > 0}) and f(1) > 0 and f(2) > 0 and len(1..f(3)) > 0";
     expr_limits limits = EXPR_LIMITS_UNTRUSTED;
     expr_environment host;
     expr_program program;
     expr_answer answer;
-    expr_status status;
     CHECK(expr_environment_new(engine, &host) == EXPR_OK && expr_add_name(engine, host, "f", EXPR_Z) == EXPR_OK);
     CHECK(expr_compile(engine, text, EXPR_Z, &program, NULL) == EXPR_OK);
     for (int turn = 0; turn < 3; turn++) {
         static const int64_t replies[] = {2, 100000000, 3};
         int calls = 0;
-        limits.steps = 12000; /* for each turn; all of them take more */
+        limits.steps = 12000;
         CHECK(expr_set_limits(engine, &limits) == EXPR_OK);
-        status = expr_run(engine, program, host, EXPR_NO_CONTEXT, &answer);
+        expr_status status = expr_run(engine, program, host, EXPR_NO_CONTEXT, &answer);
+        expr_waiting run = expr_waits(engine);
+        limits.steps = 10; /* not of the run that waits */
+        CHECK(expr_set_limits(engine, &limits) == EXPR_OK);
         for (; status == EXPR_ASKS; calls++) {
             CHECK(expr_push_integer(engine, replies[turn]) == EXPR_OK);
-            if (turn == 2 && calls == 1) {
-                limits.steps = 10; /* of the next turn */
-                CHECK(expr_set_limits(engine, &limits) == EXPR_OK && expr_asked(engine, NULL, &answer) == EXPR_OK);
-                CHECK(!strcmp(expr_shown(engine, NULL), "[2]"));
-            }
-            status = expr_reply(engine, &answer);
+            status = expr_reply(engine, run, &answer);
         }
-        CHECK(status == (turn == 0 ? EXPR_OK : EXPR_LIMIT_STEPS));
-        CHECK(calls == (turn == 2 ? 2 : 3));
-        CHECK(expr_asked(engine, NULL, NULL) == EXPR_MISUSE && expr_refuse(engine, "", 0, NULL) == EXPR_MISUSE);
-        CHECK(expr_push_nil(engine) == EXPR_OK && expr_reply(engine, NULL) == EXPR_MISUSE);
+        CHECK(status == (turn == 1 ? EXPR_LIMIT_STEPS : EXPR_OK) && calls == 3);
+        CHECK(expr_asked(engine, run, NULL, NULL) == EXPR_UNKNOWN && expr_cancel(engine, run) == EXPR_UNKNOWN);
     }
-    /* a run that stops before its first call, while another waits, leaves none waiting */
-    limits.steps = 1000000;
+    /* what all turns take together counts: so many calls end the run */
+    CHECK(expr_compile(engine, "all(1..2000, {f(#) > 0})", EXPR_Z, &program, NULL) == EXPR_OK);
+    limits.steps = 12000;
     CHECK(expr_set_limits(engine, &limits) == EXPR_OK);
+    expr_status status = expr_run(engine, program, host, EXPR_NO_CONTEXT, &answer);
+    int calls = 0;
+    for (; status == EXPR_ASKS; calls++) {
+        CHECK(expr_push_integer(engine, 1) == EXPR_OK);
+        status = expr_reply(engine, expr_waits(engine), &answer);
+    }
+    CHECK(status == EXPR_LIMIT_STEPS && calls > 50 && calls < 2000);
+    /* a reply counts as a value that was made: how much it holds, and how deep it is */
+    limits = EXPR_LIMITS_UNTRUSTED;
+    limits.size = 2000;
+    limits.depth = 3;
+    CHECK(expr_set_limits(engine, &limits) == EXPR_OK);
+    CHECK(expr_compile(engine, "len(f(1))", EXPR_Z, &program, NULL) == EXPR_OK);
+    for (int turn = 0; turn < 3; turn++) {
+        static const expr_status ends[] = {EXPR_OK, EXPR_LIMIT_SIZE, EXPR_LIMIT_DEPTH};
+        CHECK(expr_run(engine, program, host, EXPR_NO_CONTEXT, &answer) == EXPR_ASKS);
+        for (int i = 0; i < (turn == 1 ? 3000 : 3); i++) CHECK(expr_push_integer(engine, i) == EXPR_OK);
+        CHECK(expr_make_array(engine, turn == 1 ? 3000 : 3) == EXPR_OK);
+        for (int i = 0; turn == 2 && i < 5; i++) CHECK(expr_make_array(engine, 1) == EXPR_OK);
+        CHECK(expr_reply(engine, expr_waits(engine), &answer) == ends[turn]);
+    }
+    /* runs that stop leave others waiting */
+    CHECK(expr_set_limits(engine, &EXPR_LIMITS_UNTRUSTED) == EXPR_OK);
     CHECK(expr_run(engine, program, host, EXPR_NO_CONTEXT, &answer) == EXPR_ASKS);
+    expr_waiting run = expr_waits(engine);
     CHECK(expr_eval(engine, "len(1..100000000)", EXPR_Z, host, EXPR_NO_CONTEXT, &answer) == EXPR_LIMIT_STEPS);
-    CHECK(expr_asked(engine, NULL, NULL) == EXPR_MISUSE);
-    /* a text that is too high isn't run, so that the other still waits */
-    CHECK(expr_run(engine, program, host, EXPR_NO_CONTEXT, &answer) == EXPR_ASKS);
-    limits.nesting = 1;
-    CHECK(expr_set_limits(engine, &limits) == EXPR_OK);
-    CHECK(expr_eval(engine, "1 + 1", EXPR_Z, host, EXPR_NO_CONTEXT, &answer) == EXPR_LIMIT_NESTING);
-    CHECK(expr_asked(engine, NULL, &answer) == EXPR_OK && answer.number == 1);
-    return expr_set_limits(engine, &EXPR_LIMITS_UNTRUSTED) != EXPR_OK;
+    CHECK(expr_asked(engine, run, NULL, &answer) == EXPR_OK && answer.number == 1);
+    CHECK(expr_push_string(engine, "abc", EXPR_Z) == EXPR_OK && expr_reply(engine, run, &answer) == EXPR_OK && answer.number == 3);
+    return 0;
 }
 
 /* What the last run used. */
@@ -333,21 +348,22 @@ static int uses_of_the_last(void) {
     CHECK(last.steps == 0 && last.size == 0);
     CHECK(expr_set_limits(engine, &EXPR_LIMITS_UNTRUSTED) == EXPR_OK);
     CHECK(same(used_by(engine, "map(1..50, {# * 2})", EXPR_OK), first));
-    /* a run that waits is one too, and each turn begins it again */
+    /* a run that waits is one too, and all its turns count */
     CHECK(expr_environment_new(engine, &host) == EXPR_OK && expr_add_name(engine, host, "f", EXPR_Z) == EXPR_OK);
     CHECK(expr_compile(engine, "all(1..1000, {# > 0}) and f(1) == 2 and f(2) == 3", EXPR_Z, &program, NULL) == EXPR_OK);
     CHECK(expr_run(engine, program, host, context, &answer) == EXPR_ASKS);
     first = used(engine);
     CHECK(first.steps > 2000);
     for (int64_t reply = 2; reply < 4; reply++, first = last) {
-        CHECK(expr_asked(engine, NULL, NULL) == EXPR_OK && same(used(engine), first));
-        CHECK(expr_push_integer(engine, reply) == EXPR_OK && expr_reply(engine, &answer) == (reply < 3 ? EXPR_ASKS : EXPR_OK));
+        CHECK(expr_asked(engine, expr_waits(engine), NULL, NULL) == EXPR_OK && same(used(engine), first));
+        CHECK(expr_push_integer(engine, reply) == EXPR_OK);
+        CHECK(expr_reply(engine, expr_waits(engine), &answer) == (reply < 3 ? EXPR_ASKS : EXPR_OK));
         last = used(engine);
-        CHECK(last.steps > first.steps && last.steps < first.steps + 1000);
+        CHECK(last.steps > first.steps && last.steps < first.steps + 100);
     }
     CHECK(answer.kind == EXPR_BOOL && answer.number == 1);
     CHECK(expr_run(engine, program, host, context, &answer) == EXPR_ASKS);
-    CHECK(expr_refuse(engine, "no", EXPR_Z, &answer) == EXPR_EVALUATION && used(engine).steps > 2000);
+    CHECK(expr_refuse(engine, expr_waits(engine), EXPR_EVALUATION, "no", EXPR_Z) == EXPR_EVALUATION && used(engine).steps > 2000);
     CHECK(expr_clear(engine) == EXPR_OK && used(engine).steps == 0 && used(engine).size == 0);
     expr_close(engine);
     return 0;

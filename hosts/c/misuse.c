@@ -58,8 +58,9 @@ static int wrong_values(expr_engine *engine) {
     CHECK(expr_eval(engine, "[1]", EXPR_Z, ALONE, NULL) == EXPR_OK);
     CHECK(says(engine, expr_up(engine, NULL), "") && says(engine, expr_down(engine, 1, NULL), ""));
     CHECK(says(engine, expr_key(engine, 0, NULL), ""));
-    CHECK(says(engine, expr_asked(engine, NULL, NULL), "") && says(engine, expr_reply(engine, NULL), ""));
-    CHECK(says(engine, expr_refuse(engine, far_away, EXPR_Z, NULL), ""));
+    CHECK(expr_asked(engine, expr_waits(engine), NULL, NULL) == EXPR_UNKNOWN && expr_reply(engine, expr_waits(engine), NULL) == EXPR_UNKNOWN);
+    CHECK(expr_refuse(engine, expr_waits(engine), EXPR_EVALUATION, far_away, EXPR_Z) == EXPR_UNKNOWN);
+    CHECK(expr_cancel(NULL, expr_waits(NULL)) == EXPR_MISUSE && expr_cancel(engine, expr_waits(NULL)) == EXPR_UNKNOWN);
     CHECK(says(engine, expr_add_name(engine, host, "not a word", EXPR_Z), "word"));
     CHECK(says(engine, expr_add_name(engine, host, "", 0), "word") && says(engine, expr_add_name(engine, host, "1x", 2), "word"));
     CHECK(expr_add_name(engine, host, "word_1", EXPR_Z) == EXPR_OK);

@@ -82,20 +82,22 @@ static void build(expr_engine *engine, expr_context context) {
     if (!all && expr_make_array(engine, 1) != EXPR_MISUSE) FAIL("something stays built");
 }
 
-/* A run with two calls that the host answers, and one whose first call it refuses. */
+/* A run with calls that the host answers, and one whose first call it refuses. It holds names, records and items of records. */
 static void reply(expr_engine *engine, expr_environment host) {
     expr_program program;
-    const char *name, *text = "map([\"a long text of a record\", \"b\"], {f(#) + \"!\"})";
+    const char *name, *text = "let all = [\"a long text of a record\", \"b\"]; map(all, {let one = #; f(one) + string(len(filter([one, \"x\"], {# != f(#)}))) + one})";
     if (!ok(expr_add_name(engine, host, "f", EXPR_Z)) || !ok(expr_compile(engine, text, EXPR_Z, &program, NULL))) return;
     expr_status status = expr_run(engine, program, host, EXPR_NO_CONTEXT, NULL);
+    expr_waiting run = expr_waits(engine);
     while (status == EXPR_ASKS) {
-        if (!ok(expr_asked(engine, &name, NULL)) || !ok(expr_down(engine, 0, NULL)) || !ok(expr_push_looked(engine))) break;
-        status = expr_reply(engine, NULL);
+        if (!ok(expr_asked(engine, run, &name, NULL)) || !ok(expr_down(engine, 0, NULL)) || !ok(expr_push_looked(engine))) break;
+        status = expr_reply(engine, run, NULL);
         use(engine);
     }
-    if (status != EXPR_ASKS && ok(status)) expr_shown(engine, NULL);
+    if (status == EXPR_ASKS) expr_cancel(engine, run);
+    else if (ok(status)) expr_shown(engine, NULL);
     status = expr_run(engine, program, host, EXPR_NO_CONTEXT, NULL);
-    if (status == EXPR_ASKS) status = expr_refuse(engine, "there is no such article", EXPR_Z, NULL);
+    if (status == EXPR_ASKS) status = expr_refuse(engine, expr_waits(engine), EXPR_EVALUATION, "there is no such article", EXPR_Z);
     if (status != EXPR_EVALUATION) ok(status == EXPR_OK ? EXPR_MISUSE : status);
     expr_message(engine);
     expr_drop_program(engine, program);

@@ -41,7 +41,7 @@ static void say_bytes(const char *bytes, size_t length) {
 /* Says the value that the engine looks at, or the word for what ended a call. */
 static void say_end(expr_engine *engine, expr_status status) {
     static const char *const WORDS[] = {"",        "syntax", "literal", "evaluation", "pattern", "memory", "unknown", "misuse",
-                                        "asks",    "differs", "nesting", "patterns",   "steps",   "depth",  "size"};
+                                        "asks",    "nesting", "patterns",   "steps",   "depth",  "size"};
     size_t length;
     const char *shown = status == EXPR_OK ? expr_shown(engine, &length) : NULL;
     if (shown) say_bytes(shown, length);
@@ -285,7 +285,7 @@ static void say_number(expr_engine *engine, const char *kind, char name, const i
     expr_status status = expr_run(engine, program, host, context, NULL);
     while (status == EXPR_ASKS) {
         expr_push_integer(engine, numbers[name - 'a']);
-        status = expr_reply(engine, NULL);
+        status = expr_reply(engine, expr_waits(engine), NULL);
     }
     say("%s%c: ", said_length ? " " : "", name);
     say_end(engine, status);

@@ -1,5 +1,6 @@
 /* What exprlang.h promises, call by call. Says the line of the first check that fails, and ends with 1. */
 #include "exprlang.h"
+#include <malloc.h>
 #include <stdio.h>
 #include <string.h>
 #define CHECK(what) do { if (!(what)) { printf("%s:%d: %s\n", __FILE__, __LINE__, #what); return 1; } } while (0)
@@ -219,19 +220,20 @@ static int environments(expr_engine *engine) {
 
 /* Answers the calls of a run: `double` of an integer, `next`, which counts, and no other. */
 static expr_status replied(expr_engine *engine, expr_status status, expr_answer *answer, int *calls) {
+    expr_waiting run = expr_waits(engine);
     for (*calls = 0; status == EXPR_ASKS; ++*calls) {
         const char *name;
         expr_answer arguments, first;
-        if (expr_asked(engine, &name, &arguments) != EXPR_OK || arguments.kind != EXPR_ARRAY) return EXPR_MISUSE;
+        if (expr_asked(engine, run, &name, &arguments) != EXPR_OK || arguments.kind != EXPR_ARRAY) return EXPR_MISUSE;
         int doubles = !strcmp(name, "double") && arguments.number == 1, counts = !strcmp(name, "next");
         if (doubles && expr_down(engine, 0, &first) == EXPR_OK && first.kind == EXPR_INTEGER) {
             expr_push_integer(engine, first.number * 2);
-            status = expr_reply(engine, answer);
+            status = expr_reply(engine, run, answer);
         } else if (counts) {
             expr_push_integer(engine, *calls);
-            status = expr_reply(engine, answer);
+            status = expr_reply(engine, run, answer);
         } else {
-            status = expr_refuse(engine, "no such thing", EXPR_Z, answer);
+            status = expr_refuse(engine, run, EXPR_EVALUATION, "no such thing", EXPR_Z);
         }
     }
     return status;
@@ -263,22 +265,23 @@ static int functions(expr_engine *engine) {
         CHECK(expr_compile(engine, rows[i].text, EXPR_Z, &program, NULL) == EXPR_OK);
         CHECK(replied(engine, expr_run(engine, program, host, context, &answer), &answer, &calls) == EXPR_OK);
         CHECK(calls == rows[i].calls && !strcmp(expr_shown(engine, NULL), rows[i].shown));
-        CHECK(expr_asked(engine, NULL, NULL) == EXPR_MISUSE && expr_drop_program(engine, program) == EXPR_OK);
+        CHECK(expr_asked(engine, expr_waits(engine), NULL, NULL) == EXPR_UNKNOWN && expr_drop_program(engine, program) == EXPR_OK);
     }
     /* a function that refuses */
     CHECK(expr_compile(engine, "next() + fails([x, \"y\"])", EXPR_Z, &program, NULL) == EXPR_OK);
     CHECK(replied(engine, expr_run(engine, program, host, context, &answer), &answer, &calls) == EXPR_EVALUATION);
     CHECK(calls == 2 && !strcmp(expr_message(engine), "no such thing"));
-    CHECK(expr_push_nil(engine) == EXPR_OK && expr_reply(engine, &answer) == EXPR_MISUSE);
+    CHECK(expr_push_nil(engine) == EXPR_OK && expr_reply(engine, expr_waits(engine), &answer) == EXPR_UNKNOWN);
     /* a function of the language gives way */
     CHECK(expr_add_name(engine, host, "len", EXPR_Z) == EXPR_OK);
     CHECK(expr_compile(engine, "len([1, \"b\"])", EXPR_Z, &program, NULL) == EXPR_OK);
     CHECK(expr_run(engine, program, EXPR_NO_ENVIRONMENT, context, &answer) == EXPR_OK && answer.number == 2);
     CHECK(expr_run(engine, program, host, context, &answer) == EXPR_ASKS && answer.kind == EXPR_NIL);
     const char *name;
-    CHECK(expr_asked(engine, &name, &answer) == EXPR_OK && !strcmp(name, "len") && answer.number == 1);
+    expr_waiting run = expr_waits(engine);
+    CHECK(expr_asked(engine, run, &name, &answer) == EXPR_OK && !strcmp(name, "len") && answer.number == 1);
     CHECK(!strcmp(expr_shown(engine, NULL), "[[1, \"b\"]]"));
-    CHECK(expr_push_string(engine, "mine", EXPR_Z) == EXPR_OK && expr_reply(engine, &answer) == EXPR_OK);
+    CHECK(expr_push_string(engine, "mine", EXPR_Z) == EXPR_OK && expr_reply(engine, run, &answer) == EXPR_OK);
     CHECK(answer.kind == EXPR_STRING && !strcmp(answer.text, "mine"));
     return 0;
 }
@@ -354,13 +357,13 @@ static int versions(expr_engine *engine) {
     /* a function of this name that the host answers itself */
     CHECK(expr_add_name(engine, host, "versionMatches", EXPR_Z) == EXPR_OK);
     CHECK(expr_run(engine, program, host, context, &answer) == EXPR_ASKS);
-    CHECK(expr_asked(engine, &name, NULL) == EXPR_OK && !strcmp(name, "versionMatches"));
-    CHECK(expr_push_bool(engine, 0) == EXPR_OK && expr_reply(engine, &answer) == EXPR_OK && answer.number == 0);
+    CHECK(expr_asked(engine, expr_waits(engine), &name, NULL) == EXPR_OK && !strcmp(name, "versionMatches"));
+    CHECK(expr_push_bool(engine, 0) == EXPR_OK && expr_reply(engine, expr_waits(engine), &answer) == EXPR_OK && answer.number == 0);
     CHECK(expr_drop_environment(engine, host) == EXPR_OK && expr_add_versions(engine, host) == EXPR_UNKNOWN);
     return 0;
 }
 
-/* The call that waits: what is refused leaves it, and so do calls about other things. */
+/* A run that waits: what is refused leaves it, and so do calls about other things. */
 static int waiting(expr_engine *engine) {
     expr_environment host;
     expr_context context;
@@ -373,37 +376,151 @@ static int waiting(expr_engine *engine) {
     CHECK(expr_context_new(engine, &context) == EXPR_OK && expr_set_integer(engine, context, "x", EXPR_Z, 1) == EXPR_OK);
     CHECK(expr_compile(engine, "f(x) + f(2)", EXPR_Z, &program, NULL) == EXPR_OK);
     CHECK(expr_run(engine, program, host, context, &answer) == EXPR_ASKS);
-    CHECK(expr_reply(engine, &answer) == EXPR_MISUSE); /* nothing was built */
-    CHECK(expr_refuse(engine, "\xff", 1, &answer) == EXPR_MISUSE);
+    expr_waiting run = expr_waits(engine);
+    CHECK(expr_reply(engine, run, &answer) == EXPR_MISUSE); /* nothing was built */
+    CHECK(expr_refuse(engine, run, EXPR_EVALUATION, "\xff", 1) == EXPR_MISUSE);
+    CHECK(expr_refuse(engine, run, EXPR_PATTERN, "no", 2) == EXPR_MISUSE && expr_refuse(engine, run, EXPR_OK, "", 0) == EXPR_MISUSE);
+    CHECK(expr_reply(engine, (expr_waiting){99, 99, 99}, &answer) == EXPR_UNKNOWN);
     CHECK(expr_compile(engine, "7", EXPR_Z, &other, NULL) == EXPR_OK && expr_clear(NULL) == EXPR_MISUSE);
     CHECK(expr_run(engine, (expr_program){99, 99, 99}, host, context, &answer) == EXPR_UNKNOWN);
-    CHECK(expr_push_integer(engine, 20) == EXPR_OK && expr_reply(engine, &answer) == EXPR_ASKS);
-    CHECK(expr_asked(engine, &name, &answer) == EXPR_OK && !strcmp(name, "f") && !strcmp(expr_shown(engine, NULL), "[2]"));
-    CHECK(expr_push_integer(engine, 3) == EXPR_OK && expr_reply(engine, &answer) == EXPR_OK && answer.number == 23);
-    /* a call with other arguments than the one that was replied to */
+    CHECK(expr_push_integer(engine, 20) == EXPR_OK && expr_reply(engine, run, &answer) == EXPR_ASKS);
+    CHECK(expr_waits(engine).number == run.number && expr_waits(engine).place == run.place);
+    CHECK(expr_asked(engine, run, &name, &answer) == EXPR_OK && !strcmp(name, "f") && !strcmp(expr_shown(engine, NULL), "[2]"));
+    CHECK(expr_push_integer(engine, 3) == EXPR_OK && expr_reply(engine, run, &answer) == EXPR_OK && answer.number == 23);
+    CHECK(expr_reply(engine, run, &answer) == EXPR_UNKNOWN && expr_cancel(engine, run) == EXPR_UNKNOWN);
+    /* errors of each kind */
+    static const expr_status kinds[] = {EXPR_LITERAL, EXPR_EVALUATION, EXPR_MEMORY};
+    for (size_t i = 0; i < sizeof kinds / sizeof *kinds; i++) {
+        CHECK(expr_run(engine, program, host, context, &answer) == EXPR_ASKS);
+        CHECK(expr_refuse(engine, expr_waits(engine), kinds[i], "no such thing", EXPR_Z) == kinds[i]);
+        CHECK(!strcmp(expr_message(engine), kinds[i] == EXPR_MEMORY ? "out of memory" : "no such thing"));
+        CHECK(expr_cancel(engine, expr_waits(engine)) == EXPR_UNKNOWN);
+    }
+    /* a run that is dropped */
     CHECK(expr_run(engine, program, host, context, &answer) == EXPR_ASKS);
-    CHECK(expr_push_integer(engine, 20) == EXPR_OK && expr_reply(engine, &answer) == EXPR_ASKS);
-    CHECK(expr_set_integer(engine, context, "x", EXPR_Z, 5) == EXPR_OK);
-    CHECK(expr_push_integer(engine, 3) == EXPR_OK && expr_reply(engine, &answer) == EXPR_DIFFERS);
-    CHECK(expr_asked(engine, NULL, NULL) == EXPR_MISUSE && expr_refuse(engine, "", 0, NULL) == EXPR_MISUSE);
-    /* another run is begun */
-    CHECK(expr_run(engine, program, host, context, &answer) == EXPR_ASKS);
-    CHECK(expr_run(engine, other, host, context, &answer) == EXPR_OK && answer.number == 7);
-    CHECK(expr_asked(engine, NULL, NULL) == EXPR_MISUSE);
-    /* handles that are out of date */
-    CHECK(expr_run(engine, program, host, context, &answer) == EXPR_ASKS && expr_drop_program(engine, program) == EXPR_OK);
-    CHECK(expr_push_nil(engine) == EXPR_OK && expr_reply(engine, &answer) == EXPR_UNKNOWN);
-    CHECK(expr_refuse(engine, "no", 2, &answer) == EXPR_UNKNOWN);
-    CHECK(expr_asked(engine, NULL, &answer) == EXPR_OK && !strcmp(expr_shown(engine, NULL), "[5]"));
-    CHECK(expr_clear(engine) == EXPR_OK && expr_asked(engine, NULL, NULL) == EXPR_MISUSE);
+    run = expr_waits(engine);
+    CHECK(expr_cancel(engine, run) == EXPR_OK && expr_cancel(engine, run) == EXPR_UNKNOWN);
+    CHECK(expr_push_nil(engine) == EXPR_OK && expr_reply(engine, run, &answer) == EXPR_UNKNOWN);
     return 0;
+}
+
+/* Two runs that wait at once, and a third between them: a reply goes to its own run. */
+static int both(expr_engine *engine) {
+    expr_environment host;
+    expr_context context;
+    expr_program program, other;
+    expr_answer answer;
+    const char *name;
+    CHECK(expr_environment_new(engine, &host) == EXPR_OK && expr_add_name(engine, host, "f", EXPR_Z) == EXPR_OK);
+    CHECK(expr_add_name(engine, host, "g", EXPR_Z) == EXPR_OK);
+    CHECK(expr_context_json(engine, "{\"xs\": [{\"n\": [1, 2]}, {\"n\": [3]}], \"y\": \"text of a context\"}", EXPR_Z, &context) == EXPR_OK);
+    CHECK(expr_compile(engine, "map(xs, {let r = #; y + string(sum(map(r.n, {f(#) + len(r.n)})))})", EXPR_Z, &program, NULL) == EXPR_OK);
+    CHECK(expr_compile(engine, "[y, g(len(xs)), xs[g(1)].n[0]]", EXPR_Z, &other, NULL) == EXPR_OK);
+    CHECK(expr_run(engine, program, host, context, &answer) == EXPR_ASKS);
+    expr_waiting one = expr_waits(engine);
+    CHECK(expr_run(engine, other, host, context, &answer) == EXPR_ASKS);
+    expr_waiting two = expr_waits(engine);
+    CHECK(one.number != two.number || one.place != two.place);
+    static const char *const asked[] = {"[1]", "[2]", "[3]"};
+    for (int i = 0; i < 3; i++) {
+        CHECK(expr_asked(engine, one, &name, &answer) == EXPR_OK && !strcmp(name, "f") && !strcmp(expr_shown(engine, NULL), asked[i]));
+        if (i < 2) {
+            CHECK(expr_asked(engine, two, &name, &answer) == EXPR_OK && !strcmp(name, "g"));
+            CHECK(!strcmp(expr_shown(engine, NULL), i ? "[1]" : "[2]"));
+            CHECK(expr_push_integer(engine, i ? 1 : 70) == EXPR_OK);
+            CHECK(expr_reply(engine, two, &answer) == (i ? EXPR_OK : EXPR_ASKS));
+            if (i) CHECK(!strcmp(expr_shown(engine, NULL), "[\"text of a context\", 70, 3]"));
+        }
+        CHECK(expr_eval(engine, "len(y)", EXPR_Z, host, context, &answer) == EXPR_OK && answer.number == 17);
+        CHECK(expr_push_integer(engine, 10 * (i + 1)) == EXPR_OK && expr_reply(engine, one, &answer) == (i < 2 ? EXPR_ASKS : EXPR_OK));
+    }
+    CHECK(!strcmp(expr_shown(engine, NULL), "[\"text of a context34\", \"text of a context31\"]"));
+    return expr_drop_program(engine, program) != EXPR_OK;
+}
+
+/* What a run needs is dropped or changed while it waits: replies say so, and the run waits until it is dropped. */
+static int changed(expr_engine *engine) {
+    expr_environment host, second;
+    expr_context context, apart;
+    expr_program program, other;
+    expr_answer answer;
+    CHECK(expr_environment_new(engine, &host) == EXPR_OK && expr_add_name(engine, host, "f", EXPR_Z) == EXPR_OK);
+    CHECK(expr_environment_new(engine, &second) == EXPR_OK && expr_add_name(engine, second, "f", EXPR_Z) == EXPR_OK);
+    CHECK(expr_context_new(engine, &context) == EXPR_OK && expr_set_string(engine, context, "x", EXPR_Z, "x", EXPR_Z) == EXPR_OK);
+    CHECK(expr_context_new(engine, &apart) == EXPR_OK);
+    CHECK(expr_compile(engine, "[x, f(x)]", EXPR_Z, &program, NULL) == EXPR_OK);
+    CHECK(expr_compile(engine, "f(x)", EXPR_Z, &other, NULL) == EXPR_OK);
+    CHECK(expr_run(engine, program, host, context, &answer) == EXPR_ASKS);
+    expr_waiting run = expr_waits(engine);
+    CHECK(expr_set_integer(engine, apart, "x", EXPR_Z, 5) == EXPR_OK && expr_set_now(engine, second, 0, 0) == EXPR_OK);
+    CHECK(expr_push_nil(engine) == EXPR_OK && expr_reply(engine, run, &answer) == EXPR_OK);
+    CHECK(!strcmp(expr_shown(engine, NULL), "[\"x\", nil]"));
+    CHECK(expr_run(engine, program, host, context, &answer) == EXPR_ASKS);
+    run = expr_waits(engine);
+    CHECK(expr_set_string(engine, context, "x", EXPR_Z, "z", EXPR_Z) == EXPR_OK);
+    CHECK(expr_push_nil(engine) == EXPR_OK && expr_reply(engine, run, &answer) == EXPR_MISUSE && strstr(expr_message(engine), "changed"));
+    CHECK(expr_refuse(engine, run, EXPR_EVALUATION, "no", 2) == EXPR_MISUSE);
+    CHECK(expr_asked(engine, run, NULL, &answer) == EXPR_OK && !strcmp(expr_shown(engine, NULL), "[\"x\"]"));
+    CHECK(expr_cancel(engine, run) == EXPR_OK);
+    CHECK(expr_run(engine, other, second, context, &answer) == EXPR_ASKS);
+    run = expr_waits(engine);
+    CHECK(expr_add_fixed_zone(engine, second, "Z", EXPR_Z, 60) == EXPR_OK);
+    CHECK(expr_push_nil(engine) == EXPR_OK && expr_reply(engine, run, &answer) == EXPR_MISUSE && expr_cancel(engine, run) == EXPR_OK);
+    /* dropped: another thing in its place is not taken for it */
+    CHECK(expr_run(engine, program, host, context, &answer) == EXPR_ASKS && expr_drop_program(engine, program) == EXPR_OK);
+    run = expr_waits(engine);
+    CHECK(expr_compile(engine, "1", EXPR_Z, &program, NULL) == EXPR_OK);
+    CHECK(expr_push_nil(engine) == EXPR_OK && expr_reply(engine, run, &answer) == EXPR_UNKNOWN);
+    CHECK(expr_refuse(engine, run, EXPR_EVALUATION, "no", 2) == EXPR_UNKNOWN);
+    CHECK(expr_asked(engine, run, NULL, &answer) == EXPR_OK && !strcmp(expr_shown(engine, NULL), "[\"z\"]"));
+    CHECK(expr_run(engine, other, host, context, &answer) == EXPR_ASKS && expr_drop_context(engine, context) == EXPR_OK);
+    CHECK(expr_push_nil(engine) == EXPR_OK && expr_reply(engine, expr_waits(engine), &answer) == EXPR_UNKNOWN);
+    CHECK(expr_run(engine, other, host, apart, &answer) == EXPR_ASKS && expr_drop_environment(engine, host) == EXPR_OK);
+    CHECK(expr_push_nil(engine) == EXPR_OK && expr_reply(engine, expr_waits(engine), &answer) == EXPR_UNKNOWN);
+    /* clear drops all that waits */
+    CHECK(expr_clear(engine) == EXPR_OK && expr_asked(engine, run, NULL, NULL) == EXPR_UNKNOWN);
+    return 0;
+}
+
+/* How many bytes the process has from malloc. */
+static size_t in_use(void) {
+#ifdef __GLIBC__
+    return mallinfo2().uordblks;
+#else
+    return 0;
+#endif
+}
+
+/* A run with many calls holds no more than it did at the second, though each finds something else lent. */
+static int many(expr_engine *engine) {
+    expr_environment host;
+    expr_context context;
+    expr_program program;
+    expr_answer answer;
+    size_t at_first = 0;
+    CHECK(expr_environment_new(engine, &host) == EXPR_OK && expr_add_name(engine, host, "f", EXPR_Z) == EXPR_OK);
+    CHECK(expr_context_json(engine, "{\"xs\": [\"a text that is lent\", \"another text that is lent\"]}", EXPR_Z, &context) == EXPR_OK);
+    CHECK(expr_compile(engine, "let all = xs; all(1..20000, {let one = xs[# % 2]; f(#) == # and len(one) + len(all) > 9})", EXPR_Z, &program, NULL) == EXPR_OK);
+    CHECK(expr_set_unlimited(engine) == EXPR_OK);
+    expr_status status = expr_run(engine, program, host, context, &answer);
+    expr_waiting run = expr_waits(engine);
+    for (int64_t number = 1; status == EXPR_ASKS; number++) {
+        if (number == 2) at_first = in_use();
+        if (number == 20000) CHECK(in_use() <= at_first + 64);
+        CHECK(expr_push_integer(engine, number) == EXPR_OK);
+        status = expr_reply(engine, run, &answer);
+    }
+    CHECK(status == EXPR_OK && answer.kind == EXPR_BOOL && answer.number == 1);
+    CHECK(expr_drop_program(engine, program) == EXPR_OK && expr_drop_context(engine, context) == EXPR_OK);
+    return expr_set_limits(engine, &EXPR_LIMITS_UNTRUSTED) != EXPR_OK;
 }
 
 int main(void) {
     expr_engine *engine = expr_open();
     CHECK(engine);
     int failed = programs(engine) || needs(engine) || normal_form(engine) || texts(engine) || named(engine) || built(engine) || refusals(engine) ||
-                 environments(engine) || functions(engine) || versions(engine) || waiting(engine);
+                 environments(engine) || functions(engine) || versions(engine) || waiting(engine) || both(engine) ||
+                 many(engine) || changed(engine);
     expr_close(engine);
     expr_close(NULL);
     if (!failed) printf("test: ok\n");

@@ -25,8 +25,8 @@ static int is_right(expr_engine *engine, expr_program program, expr_environment 
     expr_status status = expr_run(engine, program, environment, context, &answer);
     while (status == EXPR_ASKS) {
         expr_answer arguments;
-        if (expr_asked(engine, NULL, &arguments) == EXPR_OK && arguments.number == 1) expr_push_integer(engine, turn);
-        status = expr_reply(engine, &answer);
+        if (expr_asked(engine, expr_waits(engine), NULL, &arguments) == EXPR_OK && arguments.number == 1) expr_push_integer(engine, turn);
+        status = expr_reply(engine, expr_waits(engine), &answer);
     }
     if (status != EXPR_OK || answer.kind != EXPR_BOOL || answer.number != 1) return 0;
     return expr_drop_context(engine, context) == EXPR_OK;

@@ -195,6 +195,7 @@ static void drop_context(bridge *b) {
 /* Ends a turn of a run: leaves the value, or the function that is called and its arguments, or the message. */
 static expr_status turned(bridge *b, expr_status status, const expr_answer *answer) {
     if (b->is_handed_in) b->waits = status == EXPR_ASKS;
+    if (status == EXPR_ASKS) b->run = expr_waits(b->engine);
     if (status != EXPR_ASKS) drop_context(b);
     b->length = 0;
     if (status == EXPR_OK) {
@@ -202,7 +203,7 @@ static expr_status turned(bridge *b, expr_status status, const expr_answer *answ
     } else if (status == EXPR_ASKS) {
         const char *name;
         expr_answer arguments;
-        expr_status asked = expr_asked(b->engine, &name, &arguments);
+        expr_status asked = expr_asked(b->engine, b->run, &name, &arguments);
         if (asked == EXPR_OK) {
             expr_answer of_name = {EXPR_STRING, 0, (int64_t)strlen(name), name};
             asked = write_head(b, &of_name) ? expr_look(b->engine, &arguments) : EXPR_MEMORY;
@@ -328,7 +329,7 @@ expr_status bridge_reply(bridge *b, const void *value, size_t length) {
     expr_answer answer;
     expr_status status = push(b->engine, &in);
     b->is_handed_in = status == EXPR_OK;
-    if (status == EXPR_OK) status = expr_reply(b->engine, &answer);
+    if (status == EXPR_OK) status = expr_reply(b->engine, b->run, &answer);
     return turned(b, status, &answer);
 }
 
@@ -340,8 +341,9 @@ void bridge_used(bridge *b) {
 void bridge_settle(bridge *b) {
     int is_large = b->room > BRIDGE_KEPT;
     drop_context(b);
-    /* the engine keeps its last answer and a run that waits up to its next run */
-    if (b->waits || is_large) expr_eval(b->engine, "nil", EXPR_Z, EXPR_NO_ENVIRONMENT, EXPR_NO_CONTEXT, NULL);
+    if (b->waits) expr_cancel(b->engine, b->run);
+    /* the engine keeps its last answer up to its next run */
+    if (is_large) expr_eval(b->engine, "nil", EXPR_Z, EXPR_NO_ENVIRONMENT, EXPR_NO_CONTEXT, NULL);
     b->waits = 0;
     if (is_large) {
         free(b->left);

@@ -24,6 +24,7 @@ typedef struct {
     /* The context of the run, and whether the run waits for a reply. */
     expr_context context;
     int has_context, waits;
+    expr_waiting run;
     /* Whether the last bridge_run began a run, and what bridge_used found of it. */
     int is_begun;
     int64_t steps, size;

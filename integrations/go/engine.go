@@ -115,8 +115,6 @@ func (e *engine) failed(status C.expr_status) error {
 		kind = KindEvaluation
 	case C.EXPR_PATTERN:
 		kind = KindPattern
-	case C.EXPR_DIFFERS:
-		kind = KindDiffers
 	}
 	return &Error{Kind: kind, Message: string(e.left())}
 }

@@ -33,8 +33,6 @@ const (
 	KindMemory Kind = "memory"
 	// KindMisuse is an option or a DateTime that the engine doesn't take.
 	KindMisuse Kind = "misuse"
-	// KindDiffers says that a run came to another call of a function than before.
-	KindDiffers Kind = "differs"
 )
 
 // An Error is why a program failed, or why it couldn't be made although its syntax is right.

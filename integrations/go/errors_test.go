@@ -65,8 +65,7 @@ func TestLimits(t *testing.T) {
 		{LimitSteps, "len(1..2000000)", nil},
 		{LimitDepth, "len(reduce(1..200, [#acc], 0))", []Option{WithLimits(Limits{Depth: 100})}},
 		{LimitSize, "len(repeat('a', 99999))", []Option{WithLimits(Limits{Size: 5_000})}},
-		{LimitCalls, "sum(map(1..101, f(#)))", nil},
-		{LimitCalls, "f(1) + f(2)", []Option{WithLimits(Limits{Calls: 1})}},
+		{LimitSteps, "sum(map(1..10000, f(#)))", []Option{WithLimits(Limits{Steps: 50_000})}},
 	} {
 		_, err := Eval(it.source, nil, append(it.options, f)...)
 		var stopped *LimitError
@@ -164,7 +163,7 @@ func TestUsed(t *testing.T) {
 	}
 }
 
-// A run says nothing of what its functions used, nor of the turns before its last.
+// A run says nothing of what its functions used, and all of its turns count.
 func TestUsedByCalls(t *testing.T) {
 	ctx := context.Background()
 	inner, err := Compile("len(filter(1..5000, {# > 0})) - 4999")
@@ -195,14 +194,12 @@ func TestUsedByCalls(t *testing.T) {
 	if once.Steps < 100 || thrice.Steps <= once.Steps || thrice.Steps >= 2*once.Steps {
 		t.Error(once, thrice)
 	}
-	for _, options := range [][]Option{options, append(options, WithLimits(Limits{Calls: 1}))} {
-		p, err := Compile("all(1..100, {# > 0}) and fast() == 1 and fails()", options...)
-		if err != nil {
-			t.Fatal(err)
-		}
-		if _, used, err := RunUsed(ctx, p, nil); err == nil || used.Steps < 100 {
-			t.Error(used, err)
-		}
+	p, err := Compile("all(1..100, {# > 0}) and fast() == 1 and fails()", options...)
+	if err != nil {
+		t.Fatal(err)
+	}
+	if _, used, err := RunUsed(ctx, p, nil); err == nil || used.Steps < 100 {
+		t.Error(used, err)
 	}
 }
 

@@ -13,13 +13,11 @@ type Limits struct {
 	Depth int
 	// Size is what the values may weigh that a run holds at once: an item is 1, and so are 16 bytes of a string.
 	Size int
-	// Calls is how many calls of your functions a run may make. The run begins again after each, with all its steps.
-	Calls int
 }
 
 // DefaultLimits returns the limits for untrusted expressions, which a program has without options.
 func DefaultLimits() Limits {
-	return Limits{Nesting: 5_000, Patterns: 100_000, Steps: 1_000_000, Depth: 1_000, Size: 1_000_000, Calls: 100}
+	return Limits{Nesting: 5_000, Patterns: 100_000, Steps: 1_000_000, Depth: 1_000, Size: 1_000_000}
 }
 
 // completed returns the limits with the defaults in place of zeros, and the name of one that is below 0, or "".
@@ -35,7 +33,6 @@ func (l Limits) completed() (Limits, string) {
 		{LimitSteps, &l.Steps, defaults.Steps},
 		{LimitDepth, &l.Depth, defaults.Depth},
 		{LimitSize, &l.Size, defaults.Size},
-		{LimitCalls, &l.Calls, defaults.Calls},
 	} {
 		if *it.limit < 0 {
 			return l, string(it.name)
@@ -67,7 +64,6 @@ const (
 	LimitSteps    LimitName = "steps"
 	LimitDepth    LimitName = "depth"
 	LimitSize     LimitName = "size"
-	LimitCalls    LimitName = "calls"
 )
 
 // A LimitError says which limit a program would have passed. That is no error of the language: with higher limits the program
@@ -87,8 +83,6 @@ func (e *LimitError) Error() string {
 		return "the run takes more steps than the limit of steps"
 	case LimitDepth:
 		return "the run makes a value that is deeper than the limit of depth"
-	case LimitSize:
-		return "the run holds more at once than the limit of size"
 	}
-	return "the run calls your functions more often than the limit of calls"
+	return "the run holds more at once than the limit of size"
 }

@@ -102,8 +102,7 @@ func as(kind reflect.Kind) Option {
 // its result is handed in like the values of an env. An error ends the run, as the Err of an [*Error]. So does a panic, as a
 // [*PanicError].
 //
-// A run stops at the call and begins again with the result, so a program that makes n calls runs n + 1 times. Each call is made
-// once. [Limits].Calls bounds n.
+// A run stops at the call and goes on with the result: nothing is done twice. The limits of the program span the whole run.
 func Function(name string, f func(params ...any) (any, error)) Option {
 	return FunctionContext(name, func(_ context.Context, params ...any) (any, error) { return f(params...) })
 }

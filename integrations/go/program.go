@@ -67,9 +67,8 @@ func RunContext(ctx context.Context, program *Program, env any) (any, error) {
 	return result, err
 }
 
-// RunUsed runs a program as [RunContext] does, and says what the run used of its limits, whatever it ended with. A run that calls
-// your functions begins again after each call. Then it is the last turn that counts, which takes the most. If there was no run,
-// as with a [*ValueError], nothing was used.
+// RunUsed runs a program as [RunContext] does, and says what the run used of its limits, whatever it ended with. What your
+// functions run themselves isn't in it. If there was no run, as with a [*ValueError], nothing was used.
 func RunUsed(ctx context.Context, program *Program, env any) (any, Used, error) {
 	var used Used
 	result, err := program.run(ctx, env, &used)
@@ -206,11 +205,7 @@ func (p *Program) run(ctx context.Context, env any, used *Used) (any, error) {
 		return nil, err
 	}
 	waits, err := e.run(it, environment, r, p.config.fillsMissing)
-	for calls := 0; waits; calls++ {
-		if p.config.limits != nil && calls >= p.config.limits.Calls {
-			err = &LimitError{LimitCalls}
-			break
-		}
+	for waits {
 		waits, err = e.call(ctx, p, functions)
 	}
 	if used != nil {

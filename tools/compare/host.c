@@ -80,11 +80,12 @@ static void run_once(void)
 {
     expr_answer answer, argument;
     expr_status status = expr_run(engine, program, environment, context, &answer);
+    expr_waiting run = expr_waits(engine);
     while (status == EXPR_ASKS) {
-        check(expr_asked(engine, NULL, NULL));
+        check(expr_asked(engine, run, NULL, NULL));
         check(expr_down(engine, 0, &argument));
         check(expr_push_integer(engine, twice(argument.number)));
-        status = expr_reply(engine, &answer);
+        status = expr_reply(engine, run, &answer);
     }
     check(status);
 }

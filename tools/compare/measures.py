@@ -31,9 +31,8 @@ class Job:
         text = row.written(peer.language)
         self.after = [text or "", *(f"{name}={json.dumps(it)}" for name, it in row.names.items())]
         self.refused = row.limit if peer.is_limited else ""
-        again = row.calls_host and peer.replies
-        self.turns = (10, 30) if again or row.is_long else (200, 600)
-        """The turns that are counted: few of a long text, and where each call of the host begins the run again."""
+        self.turns = (10, 30) if row.is_long else (200, 600)
+        """The turns that are counted: few of a long text."""
 
     def words(self, turns: int) -> list[str]:
         """The command for so many turns."""

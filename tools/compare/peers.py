@@ -39,8 +39,6 @@ class Peer:
     """The language of its texts, if it is another one."""
     is_limited: bool = False
     """Whether it has the limits for untrusted expressions."""
-    replies: bool = False
-    """Whether a run begins again after each call of the host."""
 
 
 def installed(command: str, package: str) -> None:
@@ -166,10 +164,10 @@ def all_peers(program: str) -> list[Peer]:
         Peer("ours (program kept)", ours),
         Peer("ours (limits)", ours, "bounded", "limited", is_limited=True),
         Peer("ours (machine kept; limits)", ours, "bounded", "kept", is_limited=True),
-        Peer("ours from C", host, set="set", is_limited=True, replies=True),
-        Peer("ours from C (unlimited)", host, "compile-unlimited", "run-unlimited", "set-unlimited", replies=True),
-        Peer("ours from Rust", host_in_rust, is_limited=True, replies=True),
-        Peer("ours from Rust (unlimited)", host_in_rust, "compile-unlimited", "run-unlimited", replies=True),
+        Peer("ours from C", host, set="set", is_limited=True),
+        Peer("ours from C (unlimited)", host, "compile-unlimited", "run-unlimited", "set-unlimited"),
+        Peer("ours from Rust", host_in_rust, is_limited=True),
+        Peer("ours from Rust (unlimited)", host_in_rust, "compile-unlimited", "run-unlimited"),
         Peer("the original", original, language="the original"),
         Peer("Go's expr", expr, "compile-typed", "run-typed", "set-typed", language="Go's expr"),
         Peer("Go's expr (untyped)", expr, language="Go's expr"),

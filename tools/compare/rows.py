@@ -36,11 +36,6 @@ class Row:
         """Whether the text is so long that a turn takes a hundred times as long as others."""
         return len(self.text) > 999
 
-    @property
-    def calls_host(self) -> bool:
-        """Whether the text calls the function `twice`, which each host has."""
-        return "twice(" in self.text
-
 
 def any_of(condition: str, word: str) -> str:
     """The conditions on x, with this word between them."""

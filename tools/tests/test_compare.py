@@ -65,9 +65,7 @@ class JobTest(unittest.TestCase):
         self.assertFalse(is_refused(job(row)))
 
     def test_few_turns_are_counted_where_a_turn_is_long(self) -> None:
-        row = next(row for row in ROWS if row.calls_host)
-        self.assertEqual(job(row, Peer("it", str, replies=True)).turns, (10, 30))
-        self.assertEqual(job(row).turns, (200, 600))
+        self.assertEqual(job(Row("x", "1")).turns, (200, 600))
         self.assertEqual(job(next(row for row in ROWS if row.is_long)).turns, (10, 30))
 
 

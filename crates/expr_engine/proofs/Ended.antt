@@ -1,84 +1,78 @@
 -- How a run ends, by the number of its ending.
-use Rattle.std.proofs.Common.{◌≡◌, ◌≢◌, ◌⊎◌, ◌∙◌, ℕ, List, Option, None, Some, MatchOption, Result, Ok, Err, OnErr, OnOk, IfErr, IsErrAnd, IsOk, inl, inr, ap, arith, refl, rules, subst, sym}
+use Rattle.std.proofs.Common.{◌≡◌, ◌≢◌, ◌⊎◌, ◌∙◌, ℕ, List, Option, None, Some, MatchOption, Result, Ok, Err, OnErr, OnOk, IfErr, IsErrAnd, IsOk, IsSome, inl, inr, ap, arith, refl, rules, subst, sym}
 use Rattle.std.proofs.lemmas.Bool.{false≢true}
 use Rattle.expr_engine.specs.Effects.{Does, CallResult}
 use Rattle.expr_meaning.proofs.Stopping.{IsOfRuns, stops_of_runs}
 use Rattle.expr_costs.specs.Costs.{costs_in}
 use Rattle.expr_lowering.specs.OwnedCodes.{owned_blocks}
-use Rattle.expr_engine.specs.Engines.{RunInputs, CompileRefuses, RunMayAnswer, MayEnd}
+use Rattle.expr_engine.specs.Engines.{CompileRefuses, KeepsRest, MayStop, RestOfEngine, RunInputs, RunMayAnswer, rest_of_engine, world_of_run}
 use Rattle.expr_engine.specs.Limiting.{LimitsBy, limits_asked}
-use Rattle.expr_context.specs.Contexts.{context_of}
-use Rattle.expr_engine.specs.Runs.{host_with_replies}
 use Rattle.expr_engine.specs.Served.{AnswersNumber, EndsCall, RunServes, Says, status_number}
 use Rattle.expr_engine.specs.Turns.{Turns}
 use Rattle.expr_exchange.specs.declared.call.Ask.{Ask}
 use Rattle.expr_exchange.specs.declared.call.Ask.TheVariants as is
 use Rattle.expr_exchange.specs.declared.call.Call.{Call}
 use Rattle.expr_engine.specs.declared.engine.Engine.{Engine}
-use Rattle.expr_engine.specs.declared.waiting_run.WaitingRun.{WaitingRun}
 use Rattle.expr_exchange.specs.Cursor.{part_of}
-use Rattle.expr_exchange.specs.declared.cursor.ValueCursor.{ValueCursor}
+use Rattle.expr_exchange.specs.declared.handles.Handle.{Handle}
 use Rattle.expr_exchange.specs.Refusals.{IsMisuse, ends_at, ends_by, status_of}
 use Rattle.expr_exchange.specs.declared.host_error.HostError.{HostError}
-use Rattle.expr_exchange.specs.declared.host_error.HostError.TheVariants.{Language, Unknown, Misuse, Asks, Differs, Stopped}
+use Rattle.expr_exchange.specs.declared.host_error.HostError.TheVariants.{Language, Unknown, Misuse, Asks, Stopped}
 use Rattle.expr_exchange.specs.declared.misuse.Misuse.{Misuse as Wrong}
 use Rattle.expr_exchange.specs.declared.host_error.Status.{Status}
 use Rattle.expr_exchange.specs.declared.host_error.Status.TheVariants as ends
-use Rattle.expr_code.specs.Instructions.{Op}
 use Rattle.expr_limits.specs.Counting.{stops}
 use Rattle.expr_limits.specs.Rooms.{limited}
 use Rattle.expr_limits.specs.declared.limit.Limit.{Limit}
 use Rattle.expr_limits.specs.declared.limit.Limit.TheVariants.{Nesting, Patterns, Steps, Depth, Size}
 use Rattle.expr_limits.specs.declared.limits.Limits.{Limits}
-use Rattle.expr_stops.specs.Stops.{CodeComes}
-use Rattle.expr_stops.specs.declared.replies.CallReply.{CallReply}
-use Rattle.expr_meaning.specs.World.{World, world_of}
+use Rattle.expr_code.specs.Instructions.{Op}
+use Rattle.expr_meaning.specs.World.{World}
+use Rattle.expr_stops.specs.Turns.{CodeBegins}
 use Rattle.expr_error.specs.ErrorKind.{ErrorKind, error_kind, syntax, literal, evaluation, pattern, memory}
 use Rattle.expr_value.specs.declared.value.Value.{Value}
 
-said_by : (q : RunInputs) (given : List CallReply) (value : Value) (fault : ErrorKind) → (fault ≢ memory → RunMayAnswer q given (Err fault)) → Says q given (ends_by fault) value
-said_by q given value syntax m = m (search rules)
-said_by q given value literal m = m (search rules)
-said_by q given value evaluation m = m (search rules)
-said_by q given value pattern m = m (search rules)
-said_by q given value memory m = tt
+said_by : (q : RunInputs) (value : Value) (fault : ErrorKind) → (fault ≢ memory → RunMayAnswer q (Err fault)) → Says q (ends_by fault) value
+said_by q value syntax m = m (search rules)
+said_by q value literal m = m (search rules)
+said_by q value evaluation m = m (search rules)
+said_by q value pattern m = m (search rules)
+said_by q value memory m = tt
 
--- code stops at a limit of runs, and at none where there are no limits
-stops_at_runs : (limits : Option Limits) (world : World) (code : List (List Op)) (limit : Limit) → CodeComes limits world code (stops limit) → IsOfRuns limit
-stops_at_runs (Some limits) world code limit p = stops_of_runs (costs_in world.host) world code (limited limits.steps limits.size limits.depth) limit p
-stops_at_runs None world code limit p = absurd p
+-- code stops at a limit of runs
+stops_at_runs : (limits : Option Limits) (world : World) (code : List (List Op)) (limit : Limit) → IsSome limits → CodeBegins world code limits (stops limit) → IsOfRuns limit
+stops_at_runs (Some limits) world code limit some p = stops_of_runs (costs_in world.host) world code (limited limits.steps limits.size limits.depth) limit p
+stops_at_runs None world code limit some p = absurd (false≢true some)
 
-of_runs : (q : RunInputs) (given : List CallReply) (limit : Limit) → MayEnd q given (stops limit) → IsOfRuns limit
-of_runs q given limit p = stops_at_runs q.limits (world_of (host_with_replies q.added given) (context_of q.names)) (owned_blocks q.rule.code) limit p
+of_runs : (q : RunInputs) (limit : Limit) → MayStop q limit → IsOfRuns limit
+of_runs q limit p = stops_at_runs q.limits (world_of_run q) (owned_blocks q.rule.code) limit p.0 p.1
 
-said_at : (q : RunInputs) (given : List CallReply) (value : Value) (limit : Limit) → MayEnd q given (stops limit) → Says q given (ends_at limit) value
-said_at q given value Nesting p = of_runs q given Nesting p
-said_at q given value Patterns p = of_runs q given Patterns p
-said_at q given value Steps p = p
-said_at q given value Depth p = p
-said_at q given value Size p = p
+said_at : (q : RunInputs) (value : Value) (limit : Limit) → MayStop q limit → Says q (ends_at limit) value
+said_at q value Nesting p = of_runs q Nesting p
+said_at q value Patterns p = of_runs q Patterns p
+said_at q value Steps p = p
+said_at q value Depth p = p
+said_at q value Size p = p
 
 -- what a run gives, its ending says
-pub answers_by : {A : Type 0} (q : RunInputs) (given : List CallReply) (done : Result A HostError) (value : Value) (number : ℕ) → RunServes q given done value → EndsCall done number → AnswersNumber q given number value
-answers_by q given (Ok shown) value number r e = record { status = ends.Done; is = e; says = r }
-answers_by q given (Err (Language error)) value number r (inl e) = record { status = ends_by (error_kind error); is = e; says = said_by q given value (error_kind error) r }
-answers_by q given (Err (Language error)) value number r (inr e) = record { status = ends.Memory; is = e; says = tt }
-answers_by q given (Err Unknown) value number r e = absurd r
-answers_by q given (Err (Misuse why)) value number r e = absurd r
-answers_by q given (Err Asks) value number r e = record { status = ends.Asks; is = e; says = tt }
-answers_by q given (Err Differs) value number r e = record { status = ends.Differs; is = e; says = tt }
-answers_by q given (Err (Stopped limit)) value number r (inl e) = record { status = ends_at limit; is = e; says = said_at q given value limit r }
-answers_by q given (Err (Stopped limit)) value number r (inr e) = record { status = ends.Memory; is = e; says = tt }
+pub answers_by : {A : Type 0} (q : RunInputs) (done : Result A HostError) (value : Value) (number : ℕ) → RunServes q done value → EndsCall done number → AnswersNumber q number value
+answers_by q (Ok shown) value number r e = record { status = ends.Done; is = e; says = r }
+answers_by q (Err (Language error)) value number r (inl e) = record { status = ends_by (error_kind error); is = e; says = said_by q value (error_kind error) r }
+answers_by q (Err (Language error)) value number r (inr e) = record { status = ends.Memory; is = e; says = tt }
+answers_by q (Err Unknown) value number r e = absurd r
+answers_by q (Err (Misuse why)) value number r e = absurd r
+answers_by q (Err (Asks run)) value number r e = record { status = ends.Asks; is = e; says = tt }
+answers_by q (Err (Stopped limit)) value number r (inl e) = record { status = ends_at limit; is = e; says = said_at q value limit r }
+answers_by q (Err (Stopped limit)) value number r (inr e) = record { status = ends.Memory; is = e; says = tt }
 
 -- the ending, if a handle may find nothing
-pub served_by : {A : Type 0} (o : Option RunInputs) (given : List CallReply) (done : Result A HostError) (value : Value) (number : ℕ) → MatchOption o (done ≡ Err Unknown) (λ q. RunServes q given done value) → (done ≡ Err Unknown → number ≡ 6) → EndsCall done number → MatchOption o (number ≡ 6) (λ q. AnswersNumber q given number value)
-served_by None given done value number m unknown e = unknown m
-served_by (Some q) given done value number m unknown e = answers_by q given done value number m e
+pub served_by : {A : Type 0} (o : Option RunInputs) (done : Result A HostError) (value : Value) (number : ℕ) → MatchOption o (done ≡ Err Unknown) (λ q. RunServes q done value) → (done ≡ Err Unknown → number ≡ 6) → EndsCall done number → MatchOption o (number ≡ 6) (λ q. AnswersNumber q number value)
+served_by None done value number m unknown e = unknown m
+served_by (Some q) done value number m unknown e = answers_by q done value number m e
 
--- the state of the run that waits, if the engine keeps that and its result after
-pub turns_on : (ask : Ask) (old : Engine) (call : Call) (done : Result (Unit {0}) HostError) (mid new : Engine) → Turns ask old call done mid.waits (part_of mid.answer) → new.waits ≡ mid.waits → new.answer ≡ mid.answer → Turns ask old call done new.waits (part_of new.answer)
-turns_on ask old call done mid new t w a =
-    subst (λ (x : WaitingRun). Turns ask old call done x (part_of new.answer)) (sym w) (subst (λ (x : ValueCursor). Turns ask old call done mid.waits (part_of x)) (sym a) t)
+-- the runs that wait, if the engine keeps them, what was used and its result after
+pub turns_on : (ask : Ask) (old : Engine) (call : Call) (done : Result (Unit {0}) HostError) (mid new : Engine) → Turns ask old call done (rest_of_engine mid) (part_of mid.answer) → KeepsRest mid new → Turns ask old call done (rest_of_engine new) (part_of new.answer)
+turns_on ask old call done mid new t s = subst (λ (x : RestOfEngine). Turns ask old call done x (part_of x.answer)) (sym s) t
 
 -- an error of the language has another status than success
 not_done : (fault : ErrorKind) → status_number (ends_by fault) ≡ 0 → ⊥
@@ -101,22 +95,20 @@ never_done A (Language error) number (inl e) z = not_done (error_kind error) (sy
 never_done A (Language error) number (inr e) z = omega arith
 never_done A Unknown number e z = omega arith
 never_done A (Misuse why) number e z = omega arith
-never_done A Asks number e z = omega arith
-never_done A Differs number e z = omega arith
+never_done A (Asks run) number e z = omega arith
 never_done A (Stopped limit) number (inl e) z = not_done_at limit (sym e ∙ z)
 never_done A (Stopped limit) number (inr e) z = omega arith
 
 -- a call that fails ends by its status, or by that of a lack of memory if the error has a message
 pub ends_call : (refused : HostError) (status : Status) (number : ℕ) → (status ≡ status_of refused) ⊎ (status ≡ ends.Memory) → (refused ≡ Unknown → status ≡ ends.Unknown) → ((why : Wrong) → refused ≡ Misuse why → status ≡ ends.Misuse)
-    → (refused ≡ Asks → status ≡ ends.Asks) → (refused ≡ Differs → status ≡ ends.Differs) → number ≡ status_number status → EndsCall {A = Unit {0}} (Err refused) number
-ends_call (Language error) status number (inl s) u m a d n = inl (n ∙ ap (λ (x : Status). status_number x) s)
-ends_call (Language error) status number (inr s) u m a d n = inr (n ∙ ap (λ (x : Status). status_number x) s)
-ends_call Unknown status number s u m a d n = n ∙ ap (λ (x : Status). status_number x) (u refl)
-ends_call (Misuse why) status number s u m a d n = n ∙ ap (λ (x : Status). status_number x) (m why refl)
-ends_call Asks status number s u m a d n = n ∙ ap (λ (x : Status). status_number x) (a refl)
-ends_call Differs status number s u m a d n = n ∙ ap (λ (x : Status). status_number x) (d refl)
-ends_call (Stopped limit) status number (inl s) u m a d n = inl (n ∙ ap (λ (x : Status). status_number x) s)
-ends_call (Stopped limit) status number (inr s) u m a d n = inr (n ∙ ap (λ (x : Status). status_number x) s)
+    → ((run : Handle) → refused ≡ Asks run → status ≡ ends.Asks) → number ≡ status_number status → EndsCall {A = Unit {0}} (Err refused) number
+ends_call (Language error) status number (inl s) u m a n = inl (n ∙ ap (λ (x : Status). status_number x) s)
+ends_call (Language error) status number (inr s) u m a n = inr (n ∙ ap (λ (x : Status). status_number x) s)
+ends_call Unknown status number s u m a n = n ∙ ap (λ (x : Status). status_number x) (u refl)
+ends_call (Misuse why) status number s u m a n = n ∙ ap (λ (x : Status). status_number x) (m why refl)
+ends_call (Asks run) status number s u m a n = n ∙ ap (λ (x : Status). status_number x) (a run refl)
+ends_call (Stopped limit) status number (inl s) u m a n = inl (n ∙ ap (λ (x : Status). status_number x) s)
+ends_call (Stopped limit) status number (inr s) u m a n = inr (n ∙ ap (λ (x : Status). status_number x) s)
 
 -- what holds if a call succeeds or fails, by the number of its status
 pub done_by : {A P : Type 0} (done : Result A HostError) (number : ℕ) → OnOk done P → EndsCall done number → number ≡ 0 → P
@@ -165,8 +157,7 @@ misused_ends (Ok v) number e m = absurd m
 misused_ends (Err (Language error)) number e m = absurd m
 misused_ends (Err Unknown) number e m = absurd m
 misused_ends (Err (Misuse why)) number e m = e
-misused_ends (Err Asks) number e m = absurd m
-misused_ends (Err Differs) number e m = absurd m
+misused_ends (Err (Asks run)) number e m = absurd m
 misused_ends (Err (Stopped limit)) number e m = absurd m
 
 limits_set : (o : Option Limits) (old new : Option Limits) (done : Result (Unit {0}) HostError) (number : ℕ) → EndsCall done number
@@ -214,6 +205,7 @@ limits_on is.FillMissing old call done number new e l = l
 limits_on is.Versions old call done number new e l = l
 limits_on is.ProgramText old call done number new e l = l
 limits_on is.Used old call done number new e l = l
+limits_on is.Cancel old call done number new e l = l
 
 pub limits_by : (ask : Ask) (old : Option Limits) (call : Call) (done : Result (Unit {0}) HostError) (number : ℕ) (mid new : Option Limits) → EndsCall done number
     → LimitsBy ask old call (done ≡ Ok tt) (IsErrAnd done IsMisuse) mid → new ≡ mid → LimitsBy ask old call (number ≡ 0) (number ≡ 7) new

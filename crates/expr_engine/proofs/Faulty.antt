@@ -9,7 +9,7 @@ use Rattle.expr_error.specs.declared.error.Error.{Error}
 use Rattle.expr_error.specs.declared.error.Error.TheVariants.{PestError, ParseError, ExprError, RegexError, MemoryError}
 use Rattle.expr_exchange.specs.Refusals.{status_of}
 use Rattle.expr_exchange.specs.declared.host_error.HostError.{HostError}
-use Rattle.expr_exchange.specs.declared.host_error.HostError.TheVariants.{Language, Unknown, Misuse, Asks, Differs, Stopped}
+use Rattle.expr_exchange.specs.declared.host_error.HostError.TheVariants.{Language, Unknown, Misuse, Asks, Stopped}
 use Rattle.expr_exchange.specs.declared.host_error.Status.{Status}
 use Rattle.expr_exchange.specs.declared.host_error.Status.TheVariants as ends
 use Rattle.expr_limits.specs.declared.limit.Limit.{Limit}
@@ -74,8 +74,7 @@ answers_text limits text (Ok v) number place r e stands = record { status = ends
 answers_text limits text (Err (Language error)) number place r e stands = of_language limits text error number place r e stands
 answers_text limits text (Err Unknown) number place r e stands = absurd r
 answers_text limits text (Err (Misuse why)) number place r e stands = record { status = ends.Misuse; is = e; says = r }
-answers_text limits text (Err Asks) number place r e stands = absurd r
-answers_text limits text (Err Differs) number place r e stands = absurd r
+answers_text limits text (Err (Asks run)) number place r e stands = absurd r
 answers_text limits text (Err (Stopped limit)) number place r e stands = of_limit limits text limit number place r.0 e
 
 -- and the call kept the expression

@@ -10,3 +10,4 @@ pub mod Refusing
 pub mod Told
 pub mod Turned
 pub mod Unchanged
+pub mod Waited

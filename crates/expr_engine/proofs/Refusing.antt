@@ -3,7 +3,7 @@ use Rattle.std.proofs.Common.{◌≡◌, inl, inr, subst, sym}
 use Rattle.expr_engine.specs.Reasons.{RefusesName, RefusesZone}
 use Rattle.expr_exchange.specs.Refusals.{NotMeant}
 use Rattle.expr_exchange.specs.declared.host_error.HostError.{HostError}
-use Rattle.expr_exchange.specs.declared.host_error.HostError.TheVariants.{Language, Unknown, Misuse, Asks, Differs, Stopped}
+use Rattle.expr_exchange.specs.declared.host_error.HostError.TheVariants.{Language, Unknown, Misuse, Asks, Stopped}
 use Rattle.expr_exchange.specs.declared.misuse.Misuse.{Misuse as Wrong}
 
 -- the error of a zone that isn't misused is one of strings that aren't all UTF-8
@@ -11,8 +11,7 @@ pub zone_refused : (AreTexts : Type 0) (e : HostError) → RefusesZone (Unit {0}
 zone_refused AreTexts (Language error) r = r
 zone_refused AreTexts Unknown r = r
 zone_refused AreTexts (Misuse why) r = absurd (r tt)
-zone_refused AreTexts Asks r = r
-zone_refused AreTexts Differs r = r
+zone_refused AreTexts (Asks run) r = r
 zone_refused AreTexts (Stopped limit) r = r
 
 -- the error of a zone whose handle finds no environment
@@ -28,8 +27,7 @@ not_meant : (Means More : Type 0) → (More → Means) → (e : HostError) → N
 not_meant Means More f (Language error) n = n
 not_meant Means More f Unknown n = n
 not_meant Means More f (Misuse why) n = λ more. n (f more)
-not_meant Means More f Asks n = n
-not_meant Means More f Differs n = n
+not_meant Means More f (Asks run) n = n
 not_meant Means More f (Stopped limit) n = n
 
 pub name_refused : (IsText IsMeant : Type 0) (e : HostError) → RefusesName IsMeant e → RefusesName (IsText × IsMeant) e

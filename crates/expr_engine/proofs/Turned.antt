@@ -1,266 +1,248 @@
 -- Runs that begin, and runs that go on with a reply.
-use Rattle.std.proofs.Common.{◌≡◌, ◌≢◌, ◌⊎◌, ◌∙◌, ◌∷◌, ◌++◌, true, false, List, [], Option, None, Some, IsSome, IsErrAnd, IsSomeAnd, MatchOption, Result, Ok, Err, IfErr, IsOk, OnOk, inl, inr, ap, refl, subst, sym}
+use Rattle.std.proofs.Common.{◌≡◌, ◌∙◌, ◌+◌, Option, None, Some, IsErrAnd, IsSome, IsSomeAnd, MatchOption, Result, Ok, Err, ap, refl, subst, sym}
 use Rattle.std.proofs.lemmas.Bool.{false≢true}
 use Rattle.std.specs.Option.{option_and_then, option_map}
-use Rattle.expr_engine.specs.Engines.{RunInputs, RunMayAnswer, MayEnd, additions_at, names_at, run_inputs}
 use Rattle.expr_context.specs.Contexts.{NamedValues}
-use Rattle.expr_engine.specs.Runs.{named_by}
+use Rattle.expr_engine.specs.Effects.{Changes, LetsGo}
+use Rattle.expr_engine.specs.Engines.{MayEnd, RestOfEngine, RunInputs, RunMayAnswer, additions_at, names_at, run_inputs, world_of_run}
+use Rattle.expr_engine.specs.Runs.{MeaningAllows}
 use Rattle.expr_engine.specs.Served.{RunServes}
-use Rattle.expr_engine.specs.Turns.{GoesOnWith, IsAnswer, IsNewRun, IsSameRun, PassesOn, RunGoesOn, WaitsIfAsks, finds_nothing}
+use Rattle.expr_engine.specs.Pending.{PendingView}
+use Rattle.expr_engine.specs.Turns.{EndsTurn, GoesOnRun, IsWaitingRun, MayEndWith, PassesOn, SameRuns, StartsRun, TurnGives, TurnReaches, TurnServes, UnlessAsks, WaitsAgain, seen_at}
 use Rattle.expr_engine.specs.declared.additions.Additions.{Additions}
 use Rattle.expr_engine.specs.declared.engine.Engine.{Engine}
 use Rattle.expr_engine.specs.declared.rule.Rule.{Rule}
+use Rattle.expr_engine.specs.declared.waiting_run.TurnEnd.{TurnEnd}
 use Rattle.expr_engine.specs.declared.waiting_run.WaitingRun.{WaitingRun}
-use Rattle.expr_exchange.specs.Refusals.{ReturnsToHost}
-use Rattle.expr_exchange.specs.declared.host_error.HostError.{HostError}
-use Rattle.expr_exchange.specs.declared.host_error.HostError.TheVariants.{Language, Unknown, Misuse, Asks, Differs, Stopped}
-use Rattle.expr_exchange.specs.declared.misuse.Misuse.{Misuse as Wrong}
-use Rattle.expr_exchange.specs.declared.misuse.Misuse.TheVariants as wrong
-use Rattle.expr_exchange.specs.HandleMap.{thing_at}
+use Rattle.expr_engine.specs.declared.waiting_run.TurnEnd.TheVariants as came
+use Rattle.expr_error.specs.ErrorKind.{error_kind, memory}
+use Rattle.expr_error.specs.declared.error.Error.{Error}
+use Rattle.expr_exchange.specs.HandleMap.{KeepsOthers, SameThings, next_number, tag_of, thing_at}
 use Rattle.expr_exchange.specs.declared.handles.Handle.{Handle}
-use Rattle.expr_limits.specs.Counting.{stops}
-use Rattle.expr_stops.specs.Stops.{IsOther, IsReplied, UsesWithin, waiting_call_of, replies_of, used_of}
-use Rattle.expr_stops.specs.declared.replies.CallReply.{CallReply}
-use Rattle.expr_stops.specs.declared.replies.Reply.{Reply}
-use Rattle.expr_stops.specs.declared.replies.Reply.TheVariants as reply
-use Rattle.expr_stops.specs.declared.replay.Stop.{Stop}
-use Rattle.expr_stops.specs.declared.stops.Stops.{Stops}
+use Rattle.expr_exchange.specs.declared.host_error.HostError.{HostError}
+use Rattle.expr_exchange.specs.declared.host_error.HostError.TheVariants.{Language, Unknown, Misuse, Asks, Stopped}
+use Rattle.expr_frames.specs.Machines.{Allowed}
+use Rattle.expr_limits.specs.Outcomes.{ReturnsOutcome}
+use Rattle.expr_limits.specs.Rooms.{unlimited}
+use Rattle.expr_limits.specs.declared.limit.Limit.{Limit}
+use Rattle.expr_limits.specs.declared.limits.Limits.{Limits}
+use Rattle.expr_limits.specs.declared.outcome.Outcome.{Outcome}
+use Rattle.expr_limits.specs.declared.outcome.Outcome.TheVariants.{Answered, Stopped as Ended}
+use Rattle.expr_lowering.specs.OwnedCodes.{owned_blocks}
+use Rattle.expr_machine.specs.Given.{MayGive as GivesWithin}
+use Rattle.expr_stops.specs.Stops.{UsesWithin}
+use Rattle.expr_stops.specs.Turns.{IfEnded, ReachesBy, StopsWithin, limits_of}
+use Rattle.expr_stops.specs.declared.turns.PendingRun.{PendingRun}
+use Rattle.expr_stops.specs.declared.turns.Reached.{Reached}
+use Rattle.expr_stops.specs.declared.turns.Reached.TheVariants as reached
+use Rattle.expr_stops.specs.declared.used.Used.{Used}
+use Rattle.expr_tree.specs.TermOf.{program_term}
 use Rattle.expr_value.specs.declared.value.Value.{Value}
 
 -- what a run finds under three handles
+abbrev inputs_by : Option Rule → Option (Option Additions) → Option NamedValues → Option Limits → Option RunInputs
+inputs_by rule added names limits =
+    option_and_then (λ rule. option_and_then (λ added. option_map (λ names. record { rule = rule; added = added; names = names; limits = limits }) names) added) rule
+
 abbrev inputs_in : Engine → Rule → Option Additions → NamedValues → RunInputs
 inputs_in engine rule added names = record { rule = rule; added = added; names = names; limits = engine.limits }
 
 pub found_so : (engine : Engine) (program environment context : Handle) (rule : Rule) (added : Option Additions) (names : NamedValues) → Some rule ≡ thing_at engine.rules program → additions_at engine environment ≡ Some added → names_at engine context ≡ Some names
     → run_inputs engine program environment context ≡ Some (inputs_in engine rule added names)
 found_so engine program environment context rule added names r a n =
-    ap (λ (o : Option Rule). option_and_then (λ (rule : Rule). option_and_then (λ (added : Option Additions). option_map (λ (names : NamedValues). inputs_in engine rule added names) (names_at engine context)) (additions_at engine environment)) o) (sym r)
-    ∙ ap (λ (o : Option (Option Additions)). option_and_then (λ (added : Option Additions). option_map (λ (names : NamedValues). inputs_in engine rule added names) (names_at engine context)) o) a
-    ∙ ap (λ (o : Option NamedValues). option_map (λ (names : NamedValues). inputs_in engine rule added names) o) n
+    ap (λ (o : Option Rule). inputs_by o (additions_at engine environment) (names_at engine context) engine.limits) (sym r)
+    ∙ ap (λ (o : Option (Option Additions)). inputs_by (Some rule) o (names_at engine context) engine.limits) a
+    ∙ ap (λ (o : Option NamedValues). inputs_by (Some rule) (Some added) o engine.limits) n
 
--- a run that differs came to another call than the recorded one
-pub differs_so : {stop : Stop} (engine : Engine) (program environment context : Handle) (rule : Rule) (added : Option Additions) (names : NamedValues) (given : List CallReply) (waits : Option Stop) (r : Result Value HostError)
-    → Some rule ≡ thing_at engine.rules program → additions_at engine environment ≡ Some added → names_at engine context ≡ Some names → r ≡ Err Differs → waits ≡ None → IsOther (named_by added) given stop
-    → MatchOption (run_inputs engine program environment context) (r ≡ Err Unknown) (λ q. WaitsIfAsks q given r waits)
-differs_so {stop} engine program environment context rule added names given waits r found a n is none other =
-    let stands : WaitsIfAsks {A = Value} (inputs_in engine rule added names) given (Err Differs) waits = (none, record { stop = stop; other = other }) in
-    subst (λ (o : Option RunInputs). MatchOption o (r ≡ Err Unknown) (λ q. WaitsIfAsks q given r waits)) (sym (found_so engine program environment context rule added names found a n))
-    (subst (λ (d : Result Value HostError). WaitsIfAsks (inputs_in engine rule added names) given d waits) (sym is) stands)
+-- nothing is found where one of them finds nothing
+none_added : (r : Option Rule) (n : Option NamedValues) (l : Option Limits) → inputs_by r None n l ≡ None
+none_added None n l = refl
+none_added (Some rule) n l = refl
 
--- what a run gives is kept, or passed on
-runs_kept : (q : RunInputs) (given : List CallReply) (answer : Result Value HostError) (done : Result (Unit {0}) HostError) (value : Value)
-    → ReturnsToHost answer (RunMayAnswer q given) (λ limit. MayEnd q given (stops limit)) → PassesOn answer done value → RunServes q given done value
-runs_kept q given (Ok v) done value g k =
-    subst (λ (d : Result (Unit {0}) HostError). RunServes q given d value) (sym k.0) (subst (λ (x : Value). RunMayAnswer q given (Ok x)) (sym k.1) g)
-runs_kept q given (Err (Language error)) done value g k = subst (λ (d : Result (Unit {0}) HostError). RunServes q given d value) (sym k) g
-runs_kept q given (Err Unknown) done value g k = absurd g
-runs_kept q given (Err (Misuse why)) done value g k = absurd g
-runs_kept q given (Err Asks) done value g k = subst (λ (d : Result (Unit {0}) HostError). RunServes q given d value) (sym k) tt
-runs_kept q given (Err Differs) done value g k = subst (λ (d : Result (Unit {0}) HostError). RunServes q given d value) (sym k) tt
-runs_kept q given (Err (Stopped limit)) done value g k = subst (λ (d : Result (Unit {0}) HostError). RunServes q given d value) (sym k) g
+none_named : (r : Option Rule) (a : Option (Option Additions)) (l : Option Limits) → inputs_by r a None l ≡ None
+none_named None a l = refl
+none_named (Some rule) None l = refl
+none_named (Some rule) (Some added) l = refl
 
-pub went : (o : Option RunInputs) (given : List CallReply) (answer : Result Value HostError) (done : Result (Unit {0}) HostError) (value : Value)
-    → MatchOption o (answer ≡ Err Unknown) (λ q. ReturnsToHost answer (RunMayAnswer q given) (λ limit. MayEnd q given (stops limit))) → PassesOn answer done value
-    → MatchOption o (done ≡ Err Unknown) (λ q. RunServes q given done value)
-went None given (Ok v) done value m k = let no : ⊥ = cc m in absurd no
-went None given (Err e) done value m k = let same : e ≡ Unknown = cc m in k ∙ ap Err same
-went (Some q) given answer done value m k = runs_kept q given answer done value m k
+pub no_rule : (engine : Engine) (program environment context : Handle) → thing_at engine.rules program ≡ None → run_inputs engine program environment context ≡ None
+no_rule engine program environment context none = ap (λ (o : Option Rule). inputs_by o (additions_at engine environment) (names_at engine context) engine.limits) none
 
--- the state of a run is its state when its result is kept
-stands_kept : (q : RunInputs) (given : List CallReply) (answer : Result Value HostError) (done : Result (Unit {0}) HostError) (value : Value) (waits : Option Stop)
-    → WaitsIfAsks q given answer waits → PassesOn answer done value → WaitsIfAsks q given done waits
-stands_kept q given (Ok v) done value waits s k = subst (λ (d : Result (Unit {0}) HostError). WaitsIfAsks q given d waits) (sym k.0) s
-stands_kept q given (Err (Language error)) done value waits s k = subst (λ (d : Result (Unit {0}) HostError). WaitsIfAsks q given d waits) (sym k) s
-stands_kept q given (Err Unknown) done value waits s k = subst (λ (d : Result (Unit {0}) HostError). WaitsIfAsks q given d waits) (sym k) s
-stands_kept q given (Err (Misuse why)) done value waits s k = subst (λ (d : Result (Unit {0}) HostError). WaitsIfAsks q given d waits) (sym k) s
-stands_kept q given (Err Asks) done value waits s k = subst (λ (d : Result (Unit {0}) HostError). WaitsIfAsks q given d waits) (sym k) s
-stands_kept q given (Err Differs) done value waits s k = subst (λ (d : Result (Unit {0}) HostError). WaitsIfAsks q given d waits) (sym k) s
-stands_kept q given (Err (Stopped limit)) done value waits s k = subst (λ (d : Result (Unit {0}) HostError). WaitsIfAsks q given d waits) (sym k) s
+pub no_host_found : (engine : Engine) (program environment context : Handle) → additions_at engine environment ≡ None → run_inputs engine program environment context ≡ None
+no_host_found engine program environment context none =
+    ap (λ (o : Option (Option Additions)). inputs_by (thing_at engine.rules program) o (names_at engine context) engine.limits) none ∙ none_added (thing_at engine.rules program) (names_at engine context) engine.limits
 
--- the state of a run that was taken out of an engine
-pub went_as : (o : Option RunInputs) (was is : Stops) (answer : Result Value HostError) (done : Result (Unit {0}) HostError) (value : Value)
-    → is ≡ was → MatchOption o (answer ≡ Err Unknown) (λ q. ReturnsToHost answer (RunMayAnswer q (replies_of is)) (λ limit. MayEnd q (replies_of is) (stops limit))) → PassesOn answer done value
-    → MatchOption o (done ≡ Err Unknown) (λ q. RunServes q (replies_of was) done value)
-went_as o was is answer done value same m k =
-    subst (λ (s : Stops). MatchOption o (done ≡ Err Unknown) (λ q. RunServes q (replies_of s) done value)) same (went o (replies_of is) answer done value m k)
-
-pub stood : (o : Option RunInputs) (given : List CallReply) (answer : Result Value HostError) (done : Result (Unit {0}) HostError) (value : Value) (waits : Option Stop)
-    → MatchOption o (answer ≡ Err Unknown) (λ q. WaitsIfAsks q given answer waits) → PassesOn answer done value
-    → MatchOption o (done ≡ Err Unknown) (λ q. WaitsIfAsks q given done waits)
-stood None given (Ok v) done value waits m k = let no : ⊥ = cc m in absurd no
-stood None given (Err e) done value waits m k = let same : e ≡ Unknown = cc m in k ∙ ap Err same
-stood (Some q) given answer done value waits m k = stands_kept q given answer done value waits m k
-
-pub stood_as : (o : Option RunInputs) (was is now after : Stops) (answer : Result Value HostError) (done : Result (Unit {0}) HostError) (value : Value)
-    → is ≡ was → after ≡ now → (waiting_call_of is ≡ None → MatchOption o (answer ≡ Err Unknown) (λ q. WaitsIfAsks q (replies_of is) answer (waiting_call_of now))) → PassesOn answer done value → waiting_call_of was ≡ None
-    → MatchOption o (done ≡ Err Unknown) (λ q. WaitsIfAsks q (replies_of was) done (waiting_call_of after))
-stood_as o was is now after answer done value same kept m k none =
-    subst (λ (x : Stops). MatchOption o (done ≡ Err Unknown) (λ q. WaitsIfAsks q (replies_of was) done (waiting_call_of x))) (sym kept)
-    (subst (λ (s : Stops). MatchOption o (done ≡ Err Unknown) (λ q. WaitsIfAsks q (replies_of s) done (waiting_call_of now))) same
-    (stood o (replies_of is) answer done value (waiting_call_of now) (m (subst (λ (s : Stops). waiting_call_of s ≡ None) (sym same) none)) k))
-
--- and what it used is noted
-pub used_as : (o : Option RunInputs) (now after : Stops) (answer : Result Value HostError) (done : Result (Unit {0}) HostError) (value : Value)
-    → after ≡ now → MatchOption o (answer ≡ Err Unknown) (λ q. UsesWithin q.limits (used_of now)) → PassesOn answer done value
-    → MatchOption o (done ≡ Err Unknown) (λ q. UsesWithin q.limits (used_of after))
-used_as None now after (Ok v) done value kept m k = let no : ⊥ = cc m in absurd no
-used_as None now after (Err e) done value kept m k = let same : e ≡ Unknown = cc m in k ∙ ap Err same
-used_as (Some q) now after answer done value kept m k = subst (λ (s : Stops). UsesWithin q.limits (used_of s)) (sym kept) m
-
--- a run with the error of a handle that finds nothing has such a handle, and any other has none
-pub nothing_found : (o : Option RunInputs) (given : List CallReply) (answer : Result Value HostError)
-    → MatchOption o (answer ≡ Err Unknown) (λ q. ReturnsToHost answer (RunMayAnswer q given) (λ limit. MayEnd q given (stops limit))) → finds_nothing answer ≡ true → o ≡ None
-nothing_found None given answer m e = refl
-nothing_found (Some q) given (Ok v) m e = absurd (false≢true e)
-nothing_found (Some q) given (Err (Language error)) m e = absurd (false≢true e)
-nothing_found (Some q) given (Err Unknown) m e = absurd m
-nothing_found (Some q) given (Err (Misuse why)) m e = absurd m
-nothing_found (Some q) given (Err Asks) m e = absurd (false≢true e)
-nothing_found (Some q) given (Err Differs) m e = absurd (false≢true e)
-nothing_found (Some q) given (Err (Stopped limit)) m e = absurd (false≢true e)
+pub no_names_found : (engine : Engine) (program environment context : Handle) → names_at engine context ≡ None → run_inputs engine program environment context ≡ None
+no_names_found engine program environment context none =
+    ap (λ (o : Option NamedValues). inputs_by (thing_at engine.rules program) (additions_at engine environment) o engine.limits) none ∙ none_named (thing_at engine.rules program) (additions_at engine environment) engine.limits
 
 pub where_none : (o : Option RunInputs) (N : Type 0) (P : RunInputs → Type 0) → o ≡ None → N → MatchOption o N P
 where_none o N P none n = subst (λ (x : Option RunInputs). MatchOption x N P) (sym none) n
 
--- a run that was begun
-pub begun : (o : Option RunInputs) (program environment context : Handle) (begins : Stops) (old new : WaitingRun) (answer : Result Value HostError) (done : Result (Unit {0}) HostError) (value : Value)
-    → new ≡ record { program = program; environment = environment; context = context; stops = begins } → finds_nothing answer ≡ false → replies_of begins ≡ []
-    → MatchOption o (answer ≡ Err Unknown) (λ q. WaitsIfAsks q [] answer (waiting_call_of begins)) → MatchOption o (answer ≡ Err Unknown) (λ q. UsesWithin q.limits (used_of begins))
-    → PassesOn answer done value → MatchOption o (new ≡ old) (λ q. IsNewRun q program environment context done new)
-begun None program environment context begins old new answer done value is known given m u k = absurd (false≢true (sym known ∙ ap (λ (r : Result Value HostError). finds_nothing r) m))
-begun (Some q) program environment context begins old new answer done value is known given m u k = record {
-  program = ap (λ (w : WaitingRun). w.program) is;
-  environment = ap (λ (w : WaitingRun). w.environment) is;
-  context = ap (λ (w : WaitingRun). w.context) is;
-  given = ap (λ (w : WaitingRun). replies_of w.stops) is ∙ given;
-  stands = subst (λ (w : WaitingRun). WaitsIfAsks q [] done (waiting_call_of w.stops)) (sym is) (stands_kept q [] answer done value (waiting_call_of begins) m k);
-  used = subst (λ (w : WaitingRun). UsesWithin q.limits (used_of w.stops)) (sym is) u;
+pub where_some : (o : Option RunInputs) (q : RunInputs) (N : Type 0) (P : RunInputs → Type 0) → o ≡ Some q → P q → MatchOption o N P
+where_some o q N P is p = subst (λ (x : Option RunInputs). MatchOption x N P) (sym is) p
+
+-- how far a turn came in its rule
+pub turn_reaches : (q : RunInputs) (before : Allowed) (r : Reached) (done : Result TurnEnd HostError) → ReachesBy (world_of_run q) (owned_blocks q.rule.code) before r → EndsTurn q.rule r done → TurnReaches q before done
+turn_reaches q before (reached.Ended result) done p is = subst (λ (d : Result TurnEnd HostError). TurnReaches q before d) (sym is) p
+turn_reaches q before (reached.Asks pending) (Ok end) p is = subst (λ (e : TurnEnd). TurnReaches q before (Ok e)) (sym is) (refl, p)
+turn_reaches q before (reached.Asks pending) (Err e) p is = subst (λ (x : HostError). TurnReaches q before (Err x)) (sym is) refl
+
+pub turn_gives : (q : RunInputs) (r : Reached) (done : Result TurnEnd HostError) → IfEnded r (λ result. GivesWithin result (MeaningAllows (world_of_run q) (program_term q.rule.program))) → IfEnded r (StopsWithin q.limits) → EndsTurn q.rule r done → TurnGives q done
+turn_gives q (reached.Ended result) done p w is = subst (λ (d : Result TurnEnd HostError). TurnGives q d) (sym is) (p, w)
+turn_gives q (reached.Asks pending) (Ok end) p w is = subst (λ (e : TurnEnd). TurnGives q (Ok e)) (sym is) tt
+turn_gives q (reached.Asks pending) (Err e) p w is = tt
+
+-- a turn that ended is served
+pub ended_serves : (before : Allowed) (Waits : Handle → Type 0) (r : Result (Outcome Value) Error) (done : Result (Unit {0}) HostError) (value : Value) → ReturnsOutcome r before → PassesOn r done value → TurnServes before Waits done value
+ended_serves before Waits (Ok (Answered v)) done value p is =
+    subst (λ (d : Result (Unit {0}) HostError). TurnServes before Waits d value) (sym is.0) (subst (λ (x : Value). TurnServes before Waits (Ok tt) x) (sym is.1) p)
+ended_serves before Waits (Ok (Ended limit)) done value p is = subst (λ (d : Result (Unit {0}) HostError). TurnServes before Waits d value) (sym is) p
+ended_serves before Waits (Err e) done value p is = subst (λ (d : Result (Unit {0}) HostError). TurnServes before Waits d value) (sym is) p
+
+pub ended_leaves : (P : Type 0) (r : Result (Outcome Value) Error) (done : Result (Unit {0}) HostError) (value : Value) → P → PassesOn r done value → UnlessAsks done P
+ended_leaves P (Ok (Answered v)) done value p is = subst (λ (d : Result (Unit {0}) HostError). UnlessAsks d P) (sym is.0) p
+ended_leaves P (Ok (Ended limit)) done value p is = subst (λ (d : Result (Unit {0}) HostError). UnlessAsks d P) (sym is) p
+ended_leaves P (Err e) done value p is = subst (λ (d : Result (Unit {0}) HostError). UnlessAsks d P) (sym is) p
+
+within_some : (limits : Option Limits) (limit : Limit) → StopsWithin limits (Ok (Ended limit)) → IsSome limits
+within_some None limit w = absurd w
+within_some (Some limits) limit w = refl
+
+run_serves : (q : RunInputs) (r : Result (Outcome Value) Error) (done : Result (Unit {0}) HostError) (value : Value) → TurnGives q (Ok (came.Ended r)) → ReturnsOutcome r (MayEnd q) → PassesOn r done value → RunServes q done value
+run_serves q (Ok (Answered v)) done value g p is =
+    subst (λ (d : Result (Unit {0}) HostError). RunServes q d value) (sym is.0) (subst (λ (x : Value). RunMayAnswer q (Ok x)) (sym is.1) (record { allowed = g.0; left = p.0; ends = p.1 }))
+run_serves q (Ok (Ended limit)) done value g p is = subst (λ (d : Result (Unit {0}) HostError). RunServes q d value) (sym is) (within_some q.limits limit g.1, p)
+run_serves q (Err e) done value g p is =
+    subst (λ (d : Result (Unit {0}) HostError). RunServes q d value) (sym is) (λ other. record { allowed = g.0 other; left = unlimited; ends = p other })
+
+-- a run that ended in its first turn
+pub run_ended : (o : Option RunInputs) (N : Type 0) (old : Engine) (new : RestOfEngine) (program environment context : Handle) (r : Result (Outcome Value) Error) (used : Used) (done : Result (Unit {0}) HostError) (value : Value)
+    → (N → ⊥) → MatchOption o N (λ q. TurnReaches q (MayEnd q) (Ok (came.Ended r)) × UsesWithin q.limits used) → PassesOn r done value → SameThings old.runs new.runs → new.used ≡ used
+    → MatchOption o (SameRuns old new) (λ q. StartsRun q program environment context old new done value)
+run_ended None N old new program environment context r used done value never m is same u = absurd (never m)
+run_ended (Some q) N old new program environment context r used done value never m is same u = record {
+  turn = ended_serves (MayEnd q) _ r done value m.0 is;
+  runs = ended_leaves (SameThings old.runs new.runs) r done value same is;
+  used = subst (λ (x : Used). UsesWithin q.limits x) (sym u) m.1;
 }
 
--- a reply that was given, and the run that went on
-goes_on : (Is : Reply → Type 0) (q : RunInputs) (old : WaitingRun) (mid : Stops) (new : WaitingRun) (r : Reply) (done : Result (Unit {0}) HostError) (value : Value)
-    → IsReplied old.stops mid r → Is r → IsSameRun old new → replies_of new.stops ≡ replies_of mid
-    → RunServes q (replies_of mid) done value → WaitsIfAsks q (replies_of mid) done (waiting_call_of new.stops) → UsesWithin q.limits (used_of new.stops) → GoesOnWith Is q old new done value
-goes_on Is q old mid new r done value replied is run given runs stands used = record {
-  stop = replied.stop;
-  waited = replied.waited;
-  reply = r;
-  is = is;
-  given = given ∙ replied.given;
-  run = run;
-  stands = subst (λ (x : List CallReply). WaitsIfAsks q x done (waiting_call_of new.stops)) (sym given) stands;
-  runs = subst (λ (x : List CallReply). RunServes q x done value) (sym given) runs;
-  used = used;
+pub run_served : (o : Option RunInputs) (N M : Type 0) (r : Result (Outcome Value) Error) (used : Used) (done : Result (Unit {0}) HostError) (value : Value)
+    → (N → ⊥) → MatchOption o N (λ q. TurnReaches q (MayEnd q) (Ok (came.Ended r)) × UsesWithin q.limits used) → MatchOption o M (λ q. TurnGives q (Ok (came.Ended r))) → PassesOn r done value
+    → MatchOption o (done ≡ Err Unknown) (λ q. RunServes q done value)
+run_served None N M r used done value never m g is = absurd (never m)
+run_served (Some q) N M r used done value never m g is = run_serves q r done value g m.0 is
+
+-- a run that waits after its first turn
+pub run_waits : (o : Option RunInputs) (N : Type 0) (old : Engine) (new : RestOfEngine) (program environment context : Handle) (pending : PendingView) (waits : WaitingRun) (used : Used) (handle : Handle) (value : Value)
+    → (N → ⊥) → MatchOption o N (λ q. TurnReaches q (MayEnd q) (Ok (came.Waits pending)) × UsesWithin q.limits used)
+    → waits ≡ record { program = program; environment = environment; context = context; seen = seen_at old environment context; pending = Some pending }
+    → handle.number ≡ next_number old.runs → handle.tag ≡ tag_of old.runs → tag_of new.runs ≡ tag_of old.runs → next_number new.runs ≡ handle.number + 1 → thing_at old.runs handle ≡ None → thing_at new.runs handle ≡ Some waits → KeepsOthers handle old.runs new.runs → new.used ≡ used
+    → MatchOption o (SameRuns old new) (λ q. StartsRun q program environment context old new (Err (Asks handle)) value)
+run_waits None N old new program environment context pending waits used handle value never m is number tag same next fresh kept others u = absurd (never m)
+run_waits (Some q) N old new program environment context pending waits used handle value never m is number tag same next fresh kept others u = record {
+  turn = record {
+    number = number;
+    tag = tag;
+    same_tag = same;
+    next = next;
+    fresh = fresh;
+    kept = subst (λ (w : Option WaitingRun). IsSomeAnd w (IsWaitingRun q (MayEnd q) program environment context (seen_at old environment context))) (sym kept) (record {
+      program = ap (λ (w : WaitingRun). w.program) is;
+      environment = ap (λ (w : WaitingRun). w.environment) is;
+      context = ap (λ (w : WaitingRun). w.context) is;
+      seen = ap (λ (w : WaitingRun). w.seen) is;
+      pending = pending;
+      is = ap (λ (w : WaitingRun). w.pending) is;
+      rule = m.0.0;
+      at = m.0.1;
+    });
+    others = others;
+  };
+  runs = tt;
+  used = subst (λ (x : Used). UsesWithin q.limits x) (sym u) m.1;
 }
 
-by_ending : (Is : Reply → Type 0) (q : RunInputs) (old new : WaitingRun) (done : Result (Unit {0}) HostError) (value : Value) → GoesOnWith Is q old new done value → RunGoesOn Is (Some q) old new done value
-by_ending Is q old new (Ok v) value g = g
-by_ending Is q old new (Err (Language error)) value g = inr g
-by_ending Is q old new (Err Unknown) value g = absurd g.runs
-by_ending Is q old new (Err (Misuse why)) value g = absurd g.runs
-by_ending Is q old new (Err Asks) value g = g
-by_ending Is q old new (Err Differs) value g = g
-by_ending Is q old new (Err (Stopped limit)) value g = g
+-- a turn that lacks memory
+lacking : (before : Allowed) (q : RunInputs) (e : HostError) (Waits : Handle → Type 0) (value : Value) → TurnReaches q before (Err e) → TurnServes before Waits (Err e) value
+lacking before q (Language error) Waits value m = λ other. absurd (other m)
+lacking before q Unknown Waits value m = absurd m
+lacking before q (Misuse why) Waits value m = absurd m
+lacking before q (Asks run) Waits value m = absurd m
+lacking before q (Stopped limit) Waits value m = absurd m
 
-pub replied_by : (Is : Reply → Type 0) (o : Option RunInputs) (old : WaitingRun) (mid : Stops) (new : WaitingRun) (r : Reply) (done : Result (Unit {0}) HostError) (value : Value)
-    → IsSome o → IsReplied old.stops mid r → Is r → IsSameRun old new → replies_of new.stops ≡ replies_of mid
-    → MatchOption o (done ≡ Err Unknown) (λ q. RunServes q (replies_of mid) done value) → MatchOption o (done ≡ Err Unknown) (λ q. WaitsIfAsks q (replies_of mid) done (waiting_call_of new.stops))
-    → MatchOption o (done ≡ Err Unknown) (λ q. UsesWithin q.limits (used_of new.stops)) → RunGoesOn Is o old new done value
-replied_by Is None old mid new r done value some replied is run given runs stands used = absurd (false≢true some)
-replied_by Is (Some q) old mid new r done value some replied is run given runs stands used =
-    by_ending Is q old new done value (goes_on Is q old mid new r done value replied is run given runs stands used)
+lacking_leaves : (P : Type 0) (before : Allowed) (q : RunInputs) (e : HostError) → TurnReaches q before (Err e) → P → UnlessAsks (Err e) P
+lacking_leaves P before q (Language error) m p = p
+lacking_leaves P before q Unknown m p = absurd m
+lacking_leaves P before q (Misuse why) m p = absurd m
+lacking_leaves P before q (Asks run) m p = absurd m
+lacking_leaves P before q (Stopped limit) m p = absurd m
 
--- an error is passed on
-pub passed_on : (Is : Reply → Type 0) (o : Option RunInputs) (old new : WaitingRun) (r : Result (Unit {0}) HostError) (e : HostError) (value : Value) → IsErrAnd r (λ x. x ≡ e) → RunGoesOn Is o old new (Err e) value → RunGoesOn Is o old new r value
-passed_on Is o old new (Ok v) e value is p = absurd is
-passed_on Is o old new (Err x) e value is p = subst (λ (y : HostError). RunGoesOn Is o old new (Err y) value) (sym is) p
+lacking_serves : (q : RunInputs) (e : HostError) (value : Value) → TurnReaches q (MayEnd q) (Err e) → RunServes {A = Unit {0}} q (Err e) value
+lacking_serves q (Language error) value m = λ other. absurd (other m)
+lacking_serves q Unknown value m = absurd m
+lacking_serves q (Misuse why) value m = absurd m
+lacking_serves q (Asks run) value m = absurd m
+lacking_serves q (Stopped limit) value m = absurd m
 
--- a handle that finds nothing, and what stands for no reply, leave the call that waits
-pub left_waiting : {why : Wrong} (Is : Reply → Type 0) (o : Option RunInputs) (old new : WaitingRun) (e : HostError) (value : Value) → new ≡ old → (e ≡ Unknown) ⊎ (e ≡ Misuse why) → RunGoesOn Is o old new (Err e) value
-left_waiting Is o old new e value same (inl is) = subst (λ (x : HostError). RunGoesOn Is o old new (Err x) value) (sym is) same
-left_waiting Is o old new e value same (inr is) = subst (λ (x : HostError). RunGoesOn Is o old new (Err x) value) (sym is) same
+-- an error is passed on as it is
+pub err_is : (r : Result (Unit {0}) HostError) (e : HostError) → IsErrAnd r (λ x. x ≡ e) → r ≡ Err e
+err_is (Ok v) e is = absurd is
+err_is (Err x) e is = ap (λ (y : HostError). Err y) is
 
--- a reply of one sort is one of another
-weaker : (Is Js : Reply → Type 0) → ((r : Reply) → Is r → Js r) → (o : Option RunInputs) (old new : WaitingRun) (done : Result (Unit {0}) HostError) (value : Value)
-    → IsSomeAnd o (λ q. GoesOnWith Is q old new done value) → IsSomeAnd o (λ q. GoesOnWith Js q old new done value)
-weaker Is Js f None old new done value g = absurd g
-weaker Is Js f (Some q) old new done value g = record {
-  stop = g.stop;
-  waited = g.waited;
-  reply = g.reply;
-  is = f g.reply g.is;
-  given = g.given;
-  run = g.run;
-  stands = g.stands;
-  runs = g.runs;
-  used = g.used;
+-- a run that has no turn, since a handle finds nothing or memory lacks
+pub run_lacks : (o : Option RunInputs) (N : Type 0) (old : Engine) (new : RestOfEngine) (program environment context : Handle) (used : Used) (e : HostError) (done : Result (Unit {0}) HostError) (value : Value) → done ≡ Err e
+    → MatchOption o N (λ q. TurnReaches q (MayEnd q) (Err e) × UsesWithin q.limits used) → (N → used ≡ old.used) → SameThings old.runs new.runs → new.used ≡ used
+    → MatchOption o (SameRuns old new) (λ q. StartsRun q program environment context old new done value)
+run_lacks None N old new program environment context used e done value is m n same u = record { runs = same; used = u ∙ n m }
+run_lacks (Some q) N old new program environment context used e done value is m n same u =
+    subst (λ (d : Result (Unit {0}) HostError). StartsRun q program environment context old new d value) (sym is) (record {
+      turn = lacking (MayEnd q) q e _ value m.0;
+      runs = lacking_leaves (SameThings old.runs new.runs) (MayEnd q) q e m.0 same;
+      used = subst (λ (x : Used). UsesWithin q.limits x) (sym u) m.1;
+    })
+
+pub run_lacks_so : (o : Option RunInputs) (N : Type 0) (used : Used) (e : HostError) (done : Result (Unit {0}) HostError) (value : Value) → done ≡ Err e → MatchOption o N (λ q. TurnReaches q (MayEnd q) (Err e) × UsesWithin q.limits used) → (N → e ≡ Unknown)
+    → MatchOption o (done ≡ Err Unknown) (λ q. RunServes q done value)
+run_lacks_so None N used e done value is m n = is ∙ ap (λ (x : HostError). Err x) (n m)
+run_lacks_so (Some q) N used e done value is m n = subst (λ (d : Result (Unit {0}) HostError). RunServes q d value) (sym is) (lacking_serves q e value m.0)
+
+-- what holds of a thing gives what else does
+some_so : {A : Type 0} (o : Option A) (P Q : A → Type 0) → ((a : A) → P a → Q a) → IsSomeAnd o P → IsSomeAnd o Q
+some_so None P Q f p = absurd p
+some_so (Some a) P Q f p = f a p
+
+-- a run that had its reply and ended
+pub reply_ended : (old : Engine) (new : RestOfEngine) (run : Handle) (waits : WaitingRun) (pending : PendingRun) (q : RunInputs) (given : Value) (r : Result (Outcome Value) Error) (used : Used) (done : Result (Unit {0}) HostError) (value : Value)
+    → TurnReaches q (MayEndWith q pending given) (Ok (came.Ended r)) × UsesWithin (limits_of pending) used → PassesOn r done value → LetsGo old.runs new.runs run → new.used ≡ used → GoesOnRun waits pending q given run old new done value
+reply_ended old new run waits pending q given r used done value m is gone u = record {
+  turn = ended_serves (MayEndWith q pending given) (WaitsAgain q (MayEndWith q pending given) waits old new run) r done value m.0 is;
+  runs = ended_leaves (LetsGo old.runs new.runs run) r done value gone is;
+  used = subst (λ (x : Used). UsesWithin (limits_of pending) x) (sym u) m.1;
 }
 
-pub replies_so : (Is Js : Reply → Type 0) → ((r : Reply) → Is r → Js r) → (o : Option RunInputs) (old new : WaitingRun) (done : Result (Unit {0}) HostError) (value : Value) → RunGoesOn Is o old new done value → RunGoesOn Js o old new done value
-replies_so Is Js f o old new (Ok v) value r = weaker Is Js f o old new (Ok v) value r
-replies_so Is Js f o old new (Err (Language error)) value (inl r) = inl r
-replies_so Is Js f o old new (Err (Language error)) value (inr r) = inr (weaker Is Js f o old new (Err (Language error)) value r)
-replies_so Is Js f o old new (Err Unknown) value r = r
-replies_so Is Js f o old new (Err (Misuse why)) value r = r
-replies_so Is Js f o old new (Err Asks) value r = weaker Is Js f o old new (Err Asks) value r
-replies_so Is Js f o old new (Err Differs) value r = weaker Is Js f o old new (Err Differs) value r
-replies_so Is Js f o old new (Err (Stopped limit)) value r = weaker Is Js f o old new (Err (Stopped limit)) value r
-
--- the value that was built last is an answer
-pub built_last : (values front : List Value) (v : Value) → values ≡ front ++ v ∷ [] → (r : Reply) → r ≡ reply.Value v → IsAnswer values r
-built_last values front v stood r is = subst (λ (x : Reply). IsAnswer values x) (sym is) (record { front = front; stood = stood })
-
--- the ending of a run that has a result
-pub ended_so : (Is : Reply → Type 0) (o : Option RunInputs) (old new : WaitingRun) (value : Value) → RunGoesOn Is o old new (Ok tt) value → IsSomeAnd o (λ q. RunMayAnswer q (replies_of new.stops) (Ok value))
-ended_so Is None old new value g = absurd g
-ended_so Is (Some q) old new value g = g.runs
-
--- whether a run's handles find what it wants, by what is known of them
-pub known_some : (o : Option RunInputs) (r : Result (Unit {0}) HostError) → MatchOption o (r ≡ Err Unknown) (λ _. IsOk r) → OnOk r (IsSome o)
-known_some None (Ok v) m = let no : ⊥ = cc m in absurd no
-known_some None (Err e) m = tt
-known_some (Some q) (Ok v) m = refl
-known_some (Some q) (Err e) m = tt
-
-pub stale_unknown : (o : Option RunInputs) (r : Result (Unit {0}) HostError) → MatchOption o (r ≡ Err Unknown) (λ _. IsOk r) → o ≡ None → r ≡ Err Unknown
-stale_unknown None r m is = m
-stale_unknown (Some q) r m is = let no : ⊥ = cc is in absurd no
-
-pub unknown_none : (o : Option RunInputs) (r : Result (Unit {0}) HostError) → MatchOption o (r ≡ Err Unknown) (λ _. IsOk r) → r ≡ Err Unknown → o ≡ None
-unknown_none None r m is = refl
-unknown_none (Some q) (Ok v) m is = let no : ⊥ = cc is in absurd no
-unknown_none (Some q) (Err e) m is = absurd (false≢true m)
-
-pub known_refused : (o : Option RunInputs) (r : Result (Unit {0}) HostError) → MatchOption o (r ≡ Err Unknown) (λ _. IsOk r) → IfErr r (λ e. (e ≡ Unknown) ⊎ (e ≡ Misuse wrong.NoCallWaits))
-known_refused None (Ok v) m = tt
-known_refused None (Err e) m = inl (cc m)
-known_refused (Some q) (Ok v) m = tt
-known_refused (Some q) (Err e) m = absurd (false≢true m)
-
-pub known_meant : (o : Option RunInputs) (r : Result (Unit {0}) HostError) → MatchOption o (r ≡ Err Unknown) (λ _. IsOk r) → (why : Wrong) → r ≡ Err (Misuse why) → ⊥
-known_meant None r m why is = let no : ⊥ = cc (m, is) in no
-known_meant (Some q) (Ok v) m why is = let no : ⊥ = cc is in no
-known_meant (Some q) (Err e) m why is = false≢true m
-
--- and a run is never misused
-pub run_meant : (o : Option RunInputs) (given : List CallReply) (r : Result (Unit {0}) HostError) (value : Value) → MatchOption o (r ≡ Err Unknown) (λ q. RunServes q given r value) → IfErr r (λ e. (why : Wrong) → e ≢ Misuse why)
-run_meant None given (Ok v) value m = tt
-run_meant None given (Err e) value m = λ why is. cc (m, is)
-run_meant (Some q) given (Ok v) value m = tt
-run_meant (Some q) given (Err (Language error)) value m = λ why is. cc is
-run_meant (Some q) given (Err Unknown) value m = λ why is. cc is
-run_meant (Some q) given (Err (Misuse was)) value m = absurd m
-run_meant (Some q) given (Err Asks) value m = λ why is. cc is
-run_meant (Some q) given (Err Differs) value m = λ why is. cc is
-run_meant (Some q) given (Err (Stopped limit)) value m = λ why is. cc is
-
--- a run that found all three doesn't have this error
-pub found_ends : (o : Option RunInputs) (given : List CallReply) (r : Result (Unit {0}) HostError) (value : Value) → IsSome o → MatchOption o (r ≡ Err Unknown) (λ q. RunServes q given r value) → IfErr r (λ e. e ≢ Unknown)
-found_ends None given r value some m = absurd (false≢true some)
-found_ends (Some q) given (Ok v) value some m = tt
-found_ends (Some q) given (Err (Language error)) value some m = λ is. cc is
-found_ends (Some q) given (Err Unknown) value some m = absurd m
-found_ends (Some q) given (Err (Misuse why)) value some m = absurd m
-found_ends (Some q) given (Err Asks) value some m = λ is. cc is
-found_ends (Some q) given (Err Differs) value some m = λ is. cc is
-found_ends (Some q) given (Err (Stopped limit)) value some m = λ is. cc is
+-- or waits again
+pub reply_waits : (old : Engine) (new : RestOfEngine) (run : Handle) (waits again : WaitingRun) (pending : PendingRun) (next : PendingView) (q : RunInputs) (given : Value) (used : Used) (value : Value)
+    → TurnReaches q (MayEndWith q pending given) (Ok (came.Waits next)) × UsesWithin (limits_of pending) used → again ≡ record waits { pending = Some next }
+    → Changes (λ _ (is : WaitingRun). is ≡ again) old.runs new.runs run → new.used ≡ used → GoesOnRun waits pending q given run old new (Err (Asks run)) value
+reply_waits old new run waits again pending next q given used value m is changes u = record {
+  turn = (
+    refl,
+    record {
+      was = changes.was;
+      stood = changes.stood;
+      kept = some_so (thing_at new.runs run) (λ (w : WaitingRun). w ≡ again) (IsWaitingRun q (MayEndWith q pending given) waits.program waits.environment waits.context waits.seen) (λ w same. record {
+        program = ap (λ (x : WaitingRun). x.program) (same ∙ is);
+        environment = ap (λ (x : WaitingRun). x.environment) (same ∙ is);
+        context = ap (λ (x : WaitingRun). x.context) (same ∙ is);
+        seen = ap (λ (x : WaitingRun). x.seen) (same ∙ is);
+        pending = next;
+        is = ap (λ (x : WaitingRun). x.pending) (same ∙ is);
+        rule = m.0.0;
+        at = m.0.1;
+      }) changes.kept;
+      others = changes.others;
+    },
+  );
+  runs = tt;
+  used = subst (λ (x : Used). UsesWithin (limits_of pending) x) (sym u) m.1;
+}

@@ -1,17 +1,17 @@
 -- Engines that keep what they kept.
-use Rattle.std.proofs.Common.{◌≡◌, ◌≤◌, ℕ, Bool, true, false, List, Option, None, Some, IsSomeAnd, is_some, Result, Ok, Err, OnErr, if◌then◌else◌, ◌∙◌, arith, ap, sym, refl, subst, option_map}
+use Rattle.std.proofs.Common.{◌≡◌, ◌≤◌, ℕ, Bool, true, false, List, Option, None, Some, IsSome, IsSomeAnd, is_some, Result, Ok, Err, OnErr, if◌then◌else◌, ◌∙◌, arith, ap, sym, refl, subst, option_map}
 use Rattle.std.proofs.lemmas.Bool.{false≢true}
 use Rattle.std.proofs.lemmas.Grind.{common_steps}
 use Rattle.std.specs.Option.{unwrap_or}
-use Rattle.expr_engine.specs.Effects.{Changes}
-use Rattle.expr_engine.specs.Engines.{KeepsThings, KeepsRest, Kept, Leaves, NumbersRise, SameAdditions, SameKept, RestOfEngine}
+use Rattle.expr_engine.specs.Effects.{Changes, LetsGo}
+use Rattle.expr_engine.specs.Engines.{KeepsThings, KeepsRest, Kept, Leaves, NumbersRise, SameAdditions, SameKept, RestOfEngine, rest_of_engine}
 use Rattle.expr_engine.specs.Runs.{adds_versions, named_at, zone_added}
 use Rattle.expr_engine.specs.declared.additions.Additions.{Additions}
 use Rattle.expr_engine.specs.declared.engine.Engine.{Engine}
-use Rattle.expr_engine.specs.declared.waiting_run.WaitingRun.{WaitingRun}
+use Rattle.expr_engine.specs.Turns.{SameRuns}
 use Rattle.expr_exchange.specs.Cursor.{SameLook, way_of, whole_value}
 use Rattle.expr_exchange.specs.declared.cursor.ValueCursor.{ValueCursor}
-use Rattle.expr_exchange.specs.HandleMap.{Rises, SameNext, SameThings, thing_at, is_same, next_number, tag_of}
+use Rattle.expr_exchange.specs.HandleMap.{KeepsOthers, Rises, SameNext, SameThings, thing_at, is_same, next_number, tag_of}
 use Rattle.expr_exchange.specs.declared.handles.Handle.{Handle}
 use Rattle.expr_exchange.specs.declared.handles.HandleMap.{HandleMap}
 use Rattle.expr_limits.specs.declared.limits.Limits.{Limits}
@@ -99,9 +99,6 @@ on_err (Err e) p = p
 abbrev pub answer_in : RestOfEngine → ValueCursor
 answer_in s = s.answer
 
-abbrev pub waits_in : RestOfEngine → WaitingRun
-waits_in s = s.waits
-
 abbrev pub limits_in : RestOfEngine → Option Limits
 limits_in s = s.limits
 
@@ -118,11 +115,19 @@ rises_same old new (tag, next) = (tag, no_less _ _ next)
 same_next : {T : Type 0} (old new : HandleMap T) → new ≡ old → SameNext old new
 same_next old new e = (ap (λ k. tag_of k) e, ap (λ k. next_number k) e)
 
-pub numbers_same : {old new : Engine} → SameNext old.rules new.rules → SameNext old.contexts new.contexts → SameNext old.environments new.environments → NumbersRise old new
-numbers_same {old} {new} r c e = record {
+-- the runs that wait are the same, and as much was used
+pub same_runs : (old new : Engine) → KeepsRest old new → SameRuns old (rest_of_engine new)
+same_runs old new s = record { runs = λ h. ap (λ (x : RestOfEngine). thing_at x.runs h) s; used = ap (λ (x : RestOfEngine). x.used) s }
+
+runs_rise : (old new : Engine) → KeepsRest old new → Rises old.runs new.runs
+runs_rise old new s = rises_same old.runs new.runs (same_next _ _ (ap (λ (x : RestOfEngine). x.runs) s))
+
+pub numbers_same : {old new : Engine} → SameNext old.rules new.rules → SameNext old.contexts new.contexts → SameNext old.environments new.environments → Rises old.runs new.runs → NumbersRise old new
+numbers_same {old} {new} r c e w = record {
   rules = rises_same old.rules new.rules r;
   contexts = rises_same old.contexts new.contexts c;
   environments = rises_same old.environments new.environments e;
+  runs = w;
 }
 
 -- a handle is itself
@@ -159,6 +164,15 @@ changes_by_swap Becomes old new h was is n stood b = record {
   others = λ k e. rw e at (n k);
 }
 
+-- a thing was exchanged for another, and that was dropped
+pub goes_by_exchange : {T : Type 0} (old mid new : HandleMap T) (h : Handle) (spare was : T) → ((k : Handle) → thing_at mid k ≡ (if is_same h k then option_map (λ _. spare) (thing_at old k) else thing_at old k))
+    → thing_at old h ≡ Some was → thing_at new h ≡ None → KeepsOthers h mid new → LetsGo old new h
+goes_by_exchange old mid new h spare was m stood gone others = record {
+  stood = subst (λ o. IsSome o) (sym stood) refl;
+  gone = gone;
+  others = λ k e. others k e ∙ rw e at (m k);
+}
+
 -- a thing is as it was, and that is what it became
 pub changes_by_nothing : {T : Type 0} (Becomes : T → T → Type 0) (old : HandleMap T) (h : Handle) (was : T) → thing_at old h ≡ Some was → Becomes was was → Changes Becomes old old h
 changes_by_nothing Becomes old h was stood b = record {
@@ -190,24 +204,28 @@ as_far a b c h e = omega arith
 rises_on : {T : Type 0} (old mid new : HandleMap T) → Rises old mid → new ≡ mid → Rises old new
 rises_on old mid new (tag, next) e = (ap (λ k. tag_of k) e ∙ tag, as_far _ _ _ next (ap (λ k. next_number k) e))
 
-pub rise_after : (old mid new : Engine) → NumbersRise old mid → KeepsThings mid new → NumbersRise old new
-rise_after old mid new n k = record {
+pub rise_after : (old mid new : Engine) → NumbersRise old mid → KeepsThings mid new → KeepsRest mid new → NumbersRise old new
+rise_after old mid new n k s = record {
   rules = rises_on old.rules mid.rules new.rules n.rules (ap (λ (x : Kept). x.rules) k);
   contexts = rises_on old.contexts mid.contexts new.contexts n.contexts (ap (λ (x : Kept). x.contexts) k);
   environments = rises_on old.environments mid.environments new.environments n.environments (ap (λ (x : Kept). x.environments) k);
+  runs = rises_on old.runs mid.runs new.runs n.runs (ap (λ (x : RestOfEngine). x.runs) s);
 }
 
-pub numbers_kept : (old new : Engine) → KeepsThings old new → NumbersRise old new
-numbers_kept old new k = numbers_same (same_next _ _ (ap (λ (x : Kept). x.rules) k)) (same_next _ _ (ap (λ (x : Kept). x.contexts) k)) (same_next _ _ (ap (λ (x : Kept). x.environments) k))
+pub numbers_things : (old new : Engine) → KeepsThings old new → Rises old.runs new.runs → NumbersRise old new
+numbers_things old new k w = numbers_same (same_next _ _ (ap (λ (x : Kept). x.rules) k)) (same_next _ _ (ap (λ (x : Kept). x.contexts) k)) (same_next _ _ (ap (λ (x : Kept). x.environments) k)) w
 
-pub numbers_by_rules : {old new : Engine} → SameNext old.rules new.rules → new.contexts ≡ old.contexts → new.environments ≡ old.environments → NumbersRise old new
-numbers_by_rules r c e = numbers_same r (same_next _ _ c) (same_next _ _ e)
+pub numbers_kept : (old new : Engine) → KeepsThings old new → KeepsRest old new → NumbersRise old new
+numbers_kept old new k s = numbers_things old new k (runs_rise old new s)
 
-pub numbers_by_contexts : {old new : Engine} → new.rules ≡ old.rules → SameNext old.contexts new.contexts → new.environments ≡ old.environments → NumbersRise old new
-numbers_by_contexts r c e = numbers_same (same_next _ _ r) c (same_next _ _ e)
+pub numbers_by_rules : {old new : Engine} → SameNext old.rules new.rules → new.contexts ≡ old.contexts → new.environments ≡ old.environments → KeepsRest old new → NumbersRise old new
+numbers_by_rules {old} {new} r c e s = numbers_same r (same_next _ _ c) (same_next _ _ e) (runs_rise old new s)
 
-pub numbers_by_environments : {old new : Engine} → new.rules ≡ old.rules → new.contexts ≡ old.contexts → SameNext old.environments new.environments → NumbersRise old new
-numbers_by_environments r c e = numbers_same (same_next _ _ r) (same_next _ _ c) e
+pub numbers_by_contexts : {old new : Engine} → new.rules ≡ old.rules → SameNext old.contexts new.contexts → new.environments ≡ old.environments → KeepsRest old new → NumbersRise old new
+numbers_by_contexts {old} {new} r c e s = numbers_same (same_next _ _ r) c (same_next _ _ e) (runs_rise old new s)
+
+pub numbers_by_environments : {old new : Engine} → new.rules ≡ old.rules → new.contexts ≡ old.contexts → SameNext old.environments new.environments → KeepsRest old new → NumbersRise old new
+numbers_by_environments {old} {new} r c e s = numbers_same (same_next _ _ r) (same_next _ _ c) e (runs_rise old new s)
 
 -- what a failed call leaves: everything, or that where one of the three finds the same things
 pub left_same : {A E : Type 0} (old new : Engine) (r : Result A E) → KeepsThings old new → KeepsRest old new → OnErr r (Leaves old new)

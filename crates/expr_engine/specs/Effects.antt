@@ -1,14 +1,14 @@
 -- The effects of calls that succeed.
-use Rattle.std.specs.Prelude.{◌≡◌, ◌+◌, ◌+ℤ◌, ◌≤ℤ◌, ◌⊎◌, ℕ, ℤ, pos, List, [], ◌∷◌, ◌++◌, None, Some, Ok, IsSome, IsSomeAnd, length, codes, map, String, string_bytes}
+use Rattle.std.specs.Prelude.{◌≡◌, ◌+◌, ◌+ℤ◌, ◌≤ℤ◌, ◌⊎◌, ℕ, ℤ, pos, List, [], ◌∷◌, ◌++◌, MatchOption, None, Option, Some, Ok, IsSome, IsSomeAnd, length, codes, map, option_map, String, string_bytes}
 use Rattle.std.specs.List.{Contains, join_by}
-use Rattle.std.specs.Option.{unwrap_or}
+use Rattle.std.specs.Option.{option_and_then, unwrap_or}
 use Rattle.std.specs.declared.alloc.Global.{Global}
 use Rattle.expr_context.specs.Contexts.{NamedValues}
 use Rattle.expr_lowering.specs.OwnedCodes.{owned_blocks}
 use Rattle.expr_encoding.specs.Optional.{value_or_refusal}
 use Rattle.expr_encoding.specs.Reading.{json_value}
 use Rattle.expr_encoding.specs.Writing.{json_text}
-use Rattle.expr_engine.specs.Engines.{KeepsThings, KeepsRest, RunMayAnswer, run_inputs, waiting_inputs}
+use Rattle.expr_engine.specs.Engines.{KeepsThings, KeepsRest, RunMayAnswer, run_inputs}
 use Rattle.expr_engine.specs.Adding.{AddsNothing, BecomesByRule, BecomesFixed, BecomesNow, GainsName, GainsVersions}
 use Rattle.expr_engine.specs.Limiting.{IsProgramBy, limits_asked, most_told, used_asked}
 use Rattle.expr_exchange.specs.declared.call.Ask.{Ask}
@@ -27,8 +27,8 @@ use Rattle.expr_exchange.specs.HandleMap.{KeepsOthers, thing_at, next_number, ta
 use Rattle.expr_exchange.specs.declared.handles.Handle.{Handle}
 use Rattle.expr_exchange.specs.declared.handles.HandleMap.{HandleMap}
 use Rattle.expr_lowering.specs.HostNeeds.{AreFunctionsOf, AreMissing, with_nil}
-use Rattle.expr_stops.specs.Stops.{waiting_call_of, replies_of, used_of}
-use Rattle.expr_stops.specs.declared.replay.Stop.{Stop}
+use Rattle.expr_meaning.specs.declared.environment.ExprCall.{ExprCall}
+use Rattle.expr_stops.specs.Turns.{asked_call}
 use Rattle.expr_syntax.specs.Texts.{IsProgramOf}
 use Rattle.expr_text.specs.Layout.{program_text}
 use Rattle.expr_tree.specs.Names.{AreNamesOf, block_operands, env}
@@ -171,7 +171,7 @@ pub record Tells (v : Value) (reply : CallResult) : Type 0 where
 pub record RunsOnce (old new : Engine) (call : Call) (reply : CallResult) : Type 0 where
   pub keeps : KeepsThings old new
   pub answer : IsSomeAnd (run_inputs old call.program call.environment call.context)
-      (λ q. RunMayAnswer q [] (Ok (part_of new.answer)))
+      (λ q. RunMayAnswer q (Ok (part_of new.answer)))
   pub way : way_of new.answer ≡ []
   pub told : Tells (part_of new.answer) reply
   pub built : new.built ≡ old.built
@@ -181,23 +181,25 @@ pub record TakesLast (old new : List Value) : Type 0 where
   pub last : Value
   pub stood : old ≡ new ++ last ∷ []
 
--- The run that waited has ended. Its result is kept, and the cursor is on the whole of it.
-pub record EndsRun (Built : List Value → List Value → Type 0) (old new : Engine) (reply : CallResult) : Type 0 where
+-- A run that waited has ended. Its result is kept, and the cursor is on the whole of it.
+pub record EndsRun (old new : Engine) (reply : CallResult) : Type 0 where
   pub keeps : KeepsThings old new
-  pub built : Built (values_of old.built) (values_of new.built)
-  pub answer : IsSomeAnd (waiting_inputs old)
-      (λ q. RunMayAnswer q (replies_of new.waits.stops) (Ok (part_of new.answer)))
+  pub built : TakesLast (values_of old.built) (values_of new.built)
   pub way : way_of new.answer ≡ []
   pub told : Tells (part_of new.answer) reply
 
--- The cursor is on copies of the waiting call's arguments, and the message is the name of its function.
-pub record LooksAtCall (old new : Engine) (reply : CallResult) : Type 0 where
+-- the call at which a run waits
+abbrev pub waiting_call : Engine → Handle → Option ExprCall
+waiting_call engine run = option_and_then (λ waits. option_map (λ pending. asked_call pending.run) waits.pending) (thing_at engine.runs run)
+
+-- The cursor is on copies of the arguments of the call at which a run waits, and the message is the name of its function.
+pub record LooksAtCall (old new : Engine) (call : Call) (reply : CallResult) : Type 0 where
   pub keeps : KeepsThings old new
-  pub stop : Stop
-  pub waits : waiting_call_of old.waits.stops ≡ Some stop
-  pub arguments : part_of new.answer ≡ values.Array stop.call.args.items
+  pub asked : ExprCall
+  pub waits : waiting_call old call.run ≡ Some asked
+  pub arguments : part_of new.answer ≡ values.Array asked.args.items
   pub way : way_of new.answer ≡ []
-  pub name : string_bytes new.said ≡ string_bytes stop.call.ident
+  pub name : string_bytes new.said ≡ string_bytes asked.ident
   pub told : Tells (part_of new.answer) reply
   pub built : new.built ≡ old.built
 
@@ -377,7 +379,7 @@ pub record LetsGoOfLimits (old new : Engine) : Type 0 where
 -- The number is how much the last run used of the limit of that number, or the greatest number if it is more.
 abbrev pub TellsUsed : Engine → Call → CallResult → Type 0
 TellsUsed engine call reply =
-    IsSomeAnd (used_asked (used_of engine.waits.stops) call.kind) (λ count. reply.number ≡ pos (most_told count))
+    IsSomeAnd (used_asked engine.used call.kind) (λ count. reply.number ≡ pos (most_told count))
 
 -- the effect of a call that succeeds
 abbrev pub Does : Ask → Engine → Engine → Call → CallResult → Type 0
@@ -408,9 +410,9 @@ Does is.DropContext old new call reply = DropsContext old new call
 Does is.DropEnvironment old new call reply = DropsEnvironment old new call
 Does is.Clear old new call reply = ForgetsAll old new
 Does is.Name old new call reply = AddsName old new call
-Does is.Answer old new call reply = EndsRun TakesLast old new reply
-Does is.Refuse old new call reply = EndsRun (λ was is. is ≡ was) old new reply
-Does is.WaitingCall old new call reply = LooksAtCall old new reply
+Does is.Answer old new call reply = EndsRun old new reply
+Does is.Refuse old new call reply = ⊥
+Does is.WaitingCall old new call reply = LooksAtCall old new call reply
 Does is.Limit old new call reply = SetsLimit old new call
 Does is.Unlimited old new call reply = LetsGoOfLimits old new
 Does is.UsesEnv old new call reply = TellsEnv old new call reply
@@ -419,10 +421,12 @@ Does is.FillMissing old new call reply = FillsMissing old new call reply
 Does is.Versions old new call reply = AddsVersions old new call
 Does is.ProgramText old new call reply = SaysProgram old new call
 Does is.Used old new call reply = (new ≡ old) × TellsUsed old call reply
+Does is.Cancel old new call reply = KeepsThings old new × (new.answer ≡ old.answer) × (new.limits ≡ old.limits) × (new.built ≡ old.built)
 
--- A call waits, and a handle of its run finds nothing.
-abbrev pub IsStale : Engine → Type 0
-IsStale engine = IsSome (waiting_call_of engine.waits.stops) × (waiting_inputs engine ≡ None)
+-- No run waits under this handle, or a handle of the run finds nothing.
+abbrev pub IsStale : Engine → Handle → Type 0
+IsStale engine run =
+    MatchOption (thing_at engine.runs run) (Unit {0}) (λ waits. (waits.pending ≡ None) ⊎ (run_inputs engine waits.program waits.environment waits.context ≡ None))
 
 -- A handle of the call finds nothing.
 abbrev pub HandleFindsNothing : Ask → Engine → Call → Type 0
@@ -442,6 +446,8 @@ HandleFindsNothing is.Functions engine call = thing_at engine.rules call.program
 HandleFindsNothing is.ProgramText engine call = thing_at engine.rules call.program ≡ None
 HandleFindsNothing is.FillMissing engine call =
     (thing_at engine.rules call.program ≡ None) ⊎ (thing_at engine.contexts call.context ≡ None)
-HandleFindsNothing is.Answer engine call = IsStale engine
-HandleFindsNothing is.Refuse engine call = IsStale engine
+HandleFindsNothing is.Answer engine call = IsStale engine call.run
+HandleFindsNothing is.Refuse engine call = IsStale engine call.run
+HandleFindsNothing is.WaitingCall engine call = waiting_call engine call.run ≡ None
+HandleFindsNothing is.Cancel engine call = thing_at engine.runs call.run ≡ None
 HandleFindsNothing ask engine call = ⊥

@@ -9,7 +9,7 @@ use Rattle.expr_engine.specs.declared.engine.TextPlace.{TextPlace}
 use Rattle.expr_error.specs.declared.error.Error.{Error}
 use Rattle.expr_error.specs.declared.error.Error.TheVariants.{PestError, ParseError, ExprError, RegexError, MemoryError}
 use Rattle.expr_exchange.specs.declared.host_error.HostError.{HostError}
-use Rattle.expr_exchange.specs.declared.host_error.HostError.TheVariants.{Language, Unknown, Misuse, Asks, Differs, Stopped}
+use Rattle.expr_exchange.specs.declared.host_error.HostError.TheVariants.{Language, Unknown, Misuse, Asks, Stopped}
 use Rattle.expr_exchange.specs.declared.host_error.Status.{Status}
 use Rattle.expr_exchange.specs.declared.host_error.Status.TheVariants as ends
 use Rattle.expr_limits.specs.declared.limit.Limit.TheVariants.{Nesting, Patterns, Steps, Depth, Size}
@@ -40,8 +40,7 @@ abbrev pub refused_byte : HostError → Option ℕ
 refused_byte (Language error) = fault_byte error
 refused_byte Unknown = None
 refused_byte (Misuse why) = None
-refused_byte Asks = None
-refused_byte Differs = None
+refused_byte (Asks run) = None
 refused_byte (Stopped limit) = None
 
 -- A position has this byte, if there is one.
@@ -70,7 +69,6 @@ SaysOfText limits text place ends.Memory = Unit {0}
 SaysOfText limits text place ends.Unknown = ⊥
 SaysOfText limits text place ends.Misuse = ¬ IsUtf8 text
 SaysOfText limits text place ends.Asks = ⊥
-SaysOfText limits text place ends.Differs = ⊥
 SaysOfText limits text place ends.Nesting = Passes limits text Nesting
 SaysOfText limits text place ends.Patterns = Passes limits text Patterns
 SaysOfText limits text place ends.Steps = ⊥

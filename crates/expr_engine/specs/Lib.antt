@@ -3,6 +3,7 @@ pub mod Effects
 pub mod Engines
 pub mod Faults
 pub mod Limiting
+pub mod Pending
 pub mod Promised
 pub mod Reasons
 pub mod Runs

@@ -19,21 +19,20 @@ use Rattle.expr_exchange.specs.Kinds.{kind_numbered}
 use Rattle.expr_exchange.specs.Refusals.{AnswerRefuses, IsForMemory, IsMisuse, NotMeant, NotThere, status_of}
 use Rattle.expr_exchange.specs.Scalars.{HasScalar}
 use Rattle.expr_exchange.specs.declared.host_error.HostError.{HostError}
-use Rattle.expr_exchange.specs.declared.host_error.HostError.TheVariants.{Language, Unknown, Misuse, Asks, Differs, Stopped}
+use Rattle.expr_exchange.specs.declared.host_error.HostError.TheVariants.{Language, Unknown, Misuse, Asks, Stopped}
 use Rattle.expr_exchange.specs.declared.host_error.Status.TheVariants as ends
 use Rattle.expr_exchange.specs.declared.misuse.Misuse.{Misuse as Wrong}
 use Rattle.expr_exchange.specs.declared.misuse.Misuse.TheVariants as wrong
 use Rattle.expr_exchange.specs.declared.kind.Kind.{Kind}
 use Rattle.expr_exchange.specs.declared.kind.Kind.TheVariants as kinds
-use Rattle.expr_stops.specs.Stops.{used_of, waiting_call_of}
+use Rattle.expr_engine.specs.Turns.{HasChanged, IsFailureKind}
 
 -- A handle finds nothing, or memory is lacking.
 abbrev pub IsUnknownOrForMemory : HostError → Type 0
 IsUnknownOrForMemory (Language error) = error_kind error ≡ memory
 IsUnknownOrForMemory Unknown = Unit {0}
 IsUnknownOrForMemory (Misuse why) = ⊥
-IsUnknownOrForMemory Asks = ⊥
-IsUnknownOrForMemory Differs = ⊥
+IsUnknownOrForMemory (Asks run) = ⊥
 IsUnknownOrForMemory (Stopped limit) = ⊥
 
 -- A string of JSON has no value, or isn't UTF-8, or memory is lacking.
@@ -41,8 +40,7 @@ abbrev pub JsonRefuses : List ℕ → HostError → Type 0
 JsonRefuses text (Language error) = error_kind error ≢ memory → value_or_refusal (json_value text) ≡ Err (error_kind error)
 JsonRefuses text Unknown = ⊥
 JsonRefuses text (Misuse why) = IsUtf8 text → ⊥
-JsonRefuses text Asks = ⊥
-JsonRefuses text Differs = ⊥
+JsonRefuses text (Asks run) = ⊥
 JsonRefuses text (Stopped limit) = ⊥
 
 -- No value of this kind is passed in.
@@ -63,8 +61,7 @@ abbrev pub RefusesZone : Type 0 → HostError → Type 0
 RefusesZone AreTexts (Language error) = error_kind error ≢ memory → error_kind error ≡ evaluation
 RefusesZone AreTexts Unknown = Unit {0}
 RefusesZone AreTexts (Misuse why) = AreTexts → ⊥
-RefusesZone AreTexts Asks = ⊥
-RefusesZone AreTexts Differs = ⊥
+RefusesZone AreTexts (Asks run) = ⊥
 RefusesZone AreTexts (Stopped limit) = ⊥
 
 -- The name of a function fails: the handle finds no environment, it is no name, or memory is lacking.
@@ -74,7 +71,7 @@ RefusesName IsMeant refused = (refused ≡ Unknown) ⊎ NotMeant IsMeant refused
 -- The number is that of no limit of which a run uses something.
 abbrev pub NothingIsCounted : Engine → Call → HostError → Type 0
 NothingIsCounted engine call refused =
-    (refused ≡ Misuse wrong.UnknownLimit) × (used_asked (used_of engine.waits.stops) call.kind ≡ None)
+    (refused ≡ Misuse wrong.UnknownLimit) × (used_asked engine.used call.kind ≡ None)
 
 -- How a call may fail. The result of a run that starts or continues says more.
 abbrev pub MayRefuse : Ask → Engine → Call → HostError → Type 0
@@ -108,10 +105,11 @@ MayRefuse is.DropEnvironment engine call refused = refused ≡ Unknown
 MayRefuse is.Clear engine call refused = ⊥
 MayRefuse is.Name engine call refused = RefusesName (IsUtf8 call.name.now × IsName call.name.now) refused
 MayRefuse is.Answer engine call refused =
-    (why : Wrong) → refused ≡ Misuse why → (waiting_call_of engine.waits.stops ≡ None) ⊎ (values_of engine.built ≡ [])
+    (why : Wrong) → refused ≡ Misuse why → HasChanged engine call.run ⊎ (values_of engine.built ≡ [])
 MayRefuse is.Refuse engine call refused =
-    (why : Wrong) → refused ≡ Misuse why → (waiting_call_of engine.waits.stops ≡ None) ⊎ (IsUtf8 call.text.now → ⊥)
-MayRefuse is.WaitingCall engine call refused = NotThere (waiting_call_of engine.waits.stops) refused
+    (why : Wrong) → refused ≡ Misuse why → HasChanged engine call.run ⊎ (IsFailureKind call.kind × IsUtf8 call.text.now → ⊥)
+MayRefuse is.WaitingCall engine call refused = IsUnknownOrForMemory refused
+MayRefuse is.Cancel engine call refused = refused ≡ Unknown
 MayRefuse is.Limit engine call refused = IsMisuse refused
 MayRefuse is.Unlimited engine call refused = ⊥
 MayRefuse is.UsesEnv engine call refused = IsUnknownOrForMemory refused

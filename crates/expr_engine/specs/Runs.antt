@@ -1,12 +1,11 @@
 -- The inputs of a run: the names of a context, and the additions of an environment.
-use Rattle.std.specs.Prelude.{ℕ, Bool, List, [], Option, None, Some, false, is_some}
+use Rattle.std.specs.Prelude.{ℕ, Bool, List, MatchBool, [], Option, None, Some, is_some}
 use Rattle.std.specs.HashMap.{get_by_text}
 use Rattle.expr_context.specs.Contexts.{NamedValues}
 use Rattle.expr_engine.specs.declared.additions.Additions.{Additions}
 use Rattle.expr_meaning.specs.Allows.{AllowsBlock}
 use Rattle.expr_meaning.specs.Host.{Host, no_host}
-use Rattle.expr_stops.specs.Stops.{host_replying, is_named}
-use Rattle.expr_stops.specs.declared.replies.CallReply.{CallReply}
+use Rattle.expr_stops.specs.Stops.{host_with_names, is_named}
 use Rattle.expr_stops.specs.declared.names.StopNames.{StopNames}
 use Rattle.expr_tree.specs.Term.{Block}
 use Rattle.expr_value.specs.Answers.{Answer}
@@ -27,11 +26,19 @@ zone_added added name = get_by_text added.zones name
 abbrev pub adds_versions : Additions → Bool
 adds_versions added = added.versions
 
--- the additions of an environment: zones, a current time, and the functions on versions if they are added
+-- the functions that the host runs itself
+abbrev pub names_in : Additions → StopNames
+names_in added = added.names
+
+abbrev pub named_at : Additions → List ℕ → Bool
+named_at added name = is_named (names_in added) name
+
+-- the additions of an environment: zones, a current time, and the functions on versions if they are added; a function that the
+-- host runs itself may return anything
 abbrev pub added_by : Additions → Host
 added_by added = record {
   is_added = λ key. is_some (function_added (adds_versions added) key);
-  calls = λ key vs answer. VersionsReturn (adds_versions added) key vs answer;
+  calls = λ key vs answer. MatchBool (named_at added key) (Unit {0}) (VersionsReturn (adds_versions added) key vs answer);
   zones = zone_added added;
   moment = added.moment;
 }
@@ -41,23 +48,10 @@ abbrev pub host_by : Option Additions → Host
 host_by None = no_host
 host_by (Some added) = added_by added
 
--- the functions that the host runs itself
-abbrev pub names_in : Additions → StopNames
-names_in added = added.names
-
-abbrev pub named_at : Additions → List ℕ → Bool
-named_at added name = is_named (names_in added) name
-
--- the names of those functions, or none for no environment
-abbrev pub named_by : Option Additions → List ℕ → Bool
-named_by None = λ _. false
-named_by (Some added) = is_named (names_in added)
-
--- the additions of an environment in which calls of the functions that the host runs itself have its replies
--- as results
-abbrev pub host_with_replies : Option Additions → List CallReply → Host
-host_with_replies None given = no_host
-host_with_replies (Some added) given = host_replying (added_by added) (is_named (names_in added)) given
+-- the same, with the functions that the host runs itself
+abbrev pub host_of_run : Option Additions → Host
+host_of_run None = no_host
+host_of_run (Some added) = host_with_names (added_by added) (is_named (names_in added))
 
 -- what a program's meaning allows, whatever the path to it
 abbrev pub MeaningAllows : World → Block → Answer → Type 0

@@ -1,6 +1,6 @@
 -- The answer to a call.
 use Rattle.std.specs.Prelude.{◌≡◌, ◌≢◌, ◌⊎◌, ◌++◌, ℕ, List, [], Result, Ok, Err, drop, length, min, string_bytes, take}
-use Rattle.expr_engine.specs.Engines.{RunInputs, RunMayAnswer, MayEnd}
+use Rattle.expr_engine.specs.Engines.{MayStop, RunInputs, RunMayAnswer}
 use Rattle.expr_exchange.specs.declared.call.Call.{Call}
 use Rattle.expr_exchange.specs.declared.call.Shows.{Shows}
 use Rattle.expr_exchange.specs.declared.call.Shows.TheVariants as shows
@@ -11,12 +11,10 @@ use Rattle.expr_exchange.specs.Misuses.{text_of_misuse}
 use Rattle.expr_exchange.specs.Cursor.{part_of}
 use Rattle.expr_exchange.specs.Refusals.{status_of}
 use Rattle.expr_exchange.specs.declared.host_error.HostError.{HostError}
-use Rattle.expr_exchange.specs.declared.host_error.HostError.TheVariants.{Language, Unknown, Misuse, Asks, Differs, Stopped}
+use Rattle.expr_exchange.specs.declared.host_error.HostError.TheVariants.{Language, Unknown, Misuse, Asks, Stopped}
 use Rattle.expr_exchange.specs.declared.host_error.Status.{Status}
 use Rattle.expr_exchange.specs.declared.host_error.Status.TheVariants as ends
-use Rattle.expr_limits.specs.Counting.{stops}
 use Rattle.expr_limits.specs.declared.limit.Limit.TheVariants as limits
-use Rattle.expr_stops.specs.declared.replies.CallReply.{CallReply}
 use Rattle.expr_error.specs.ErrorKind.{error_kind, syntax, literal, evaluation, pattern, memory}
 use Rattle.expr_value.specs.declared.value.Value.{Value}
 
@@ -31,49 +29,46 @@ status_number ends.Memory = 5
 status_number ends.Unknown = 6
 status_number ends.Misuse = 7
 status_number ends.Asks = 8
-status_number ends.Differs = 9
-status_number ends.Nesting = 10
-status_number ends.Patterns = 11
-status_number ends.Steps = 12
-status_number ends.Depth = 13
-status_number ends.Size = 14
+status_number ends.Nesting = 9
+status_number ends.Patterns = 10
+status_number ends.Steps = 11
+status_number ends.Depth = 12
+status_number ends.Size = 13
 
--- A run that found all three, with these replies, has the value under the cursor, or an error, or it stops
--- for a reply, or at a limit at which it may stop.
-abbrev pub RunServes : {A : Type 0} → RunInputs → List CallReply → Result A HostError → Value → Type 0
-RunServes q given (Ok shown) value = RunMayAnswer q given (Ok value)
-RunServes q given (Err (Language error)) value = error_kind error ≢ memory → RunMayAnswer q given (Err (error_kind error))
-RunServes q given (Err Unknown) value = ⊥
-RunServes q given (Err (Misuse why)) value = ⊥
-RunServes q given (Err Asks) value = Unit {0}
-RunServes q given (Err Differs) value = Unit {0}
-RunServes q given (Err (Stopped limit)) value = MayEnd q given (stops limit)
+-- A run that found all three has the value under the cursor, or an error, or it waits for a reply, or it stops at a limit at
+-- which it may stop.
+abbrev pub RunServes : {A : Type 0} → RunInputs → Result A HostError → Value → Type 0
+RunServes q (Ok shown) value = RunMayAnswer q (Ok value)
+RunServes q (Err (Language error)) value = error_kind error ≢ memory → RunMayAnswer q (Err (error_kind error))
+RunServes q (Err Unknown) value = ⊥
+RunServes q (Err (Misuse why)) value = ⊥
+RunServes q (Err (Asks run)) value = Unit {0}
+RunServes q (Err (Stopped limit)) value = MayStop q limit
 
 -- What the status of such a run says. Its value or its kind of error is one that the meaning allows and that
 -- a run within the limits has. Or the limit is one at which a run may stop. The limits of expressions don't
 -- occur.
-abbrev pub Says : RunInputs → List CallReply → Status → Value → Type 0
-Says q given ends.Done value = RunMayAnswer q given (Ok value)
-Says q given ends.Syntax value = RunMayAnswer q given (Err syntax)
-Says q given ends.Literal value = RunMayAnswer q given (Err literal)
-Says q given ends.Evaluation value = RunMayAnswer q given (Err evaluation)
-Says q given ends.Pattern value = RunMayAnswer q given (Err pattern)
-Says q given ends.Memory value = Unit {0}
-Says q given ends.Unknown value = ⊥
-Says q given ends.Misuse value = ⊥
-Says q given ends.Asks value = Unit {0}
-Says q given ends.Differs value = Unit {0}
-Says q given ends.Nesting value = ⊥
-Says q given ends.Patterns value = ⊥
-Says q given ends.Steps value = MayEnd q given (stops limits.Steps)
-Says q given ends.Depth value = MayEnd q given (stops limits.Depth)
-Says q given ends.Size value = MayEnd q given (stops limits.Size)
+abbrev pub Says : RunInputs → Status → Value → Type 0
+Says q ends.Done value = RunMayAnswer q (Ok value)
+Says q ends.Syntax value = RunMayAnswer q (Err syntax)
+Says q ends.Literal value = RunMayAnswer q (Err literal)
+Says q ends.Evaluation value = RunMayAnswer q (Err evaluation)
+Says q ends.Pattern value = RunMayAnswer q (Err pattern)
+Says q ends.Memory value = Unit {0}
+Says q ends.Unknown value = ⊥
+Says q ends.Misuse value = ⊥
+Says q ends.Asks value = Unit {0}
+Says q ends.Nesting value = ⊥
+Says q ends.Patterns value = ⊥
+Says q ends.Steps value = MayStop q limits.Steps
+Says q ends.Depth value = MayStop q limits.Depth
+Says q ends.Size value = MayStop q limits.Size
 
 -- what the number of a status says about a run
-pub record AnswersNumber (q : RunInputs) (given : List CallReply) (number : ℕ) (value : Value) : Type 0 where
+pub record AnswersNumber (q : RunInputs) (number : ℕ) (value : Value) : Type 0 where
   pub status : Status
   pub is : number ≡ status_number status
-  pub says : Says q given status value
+  pub says : Says q status value
 
 -- A call with this ending has this number, or memory was lacking for its message, if it has one.
 abbrev pub EndsCall : {A : Type 0} → Result A HostError → ℕ → Type 0
@@ -81,8 +76,7 @@ EndsCall (Ok shown) number = number ≡ 0
 EndsCall (Err (Language error)) number = (number ≡ status_number (status_of (Language error))) ⊎ (number ≡ 5)
 EndsCall (Err Unknown) number = number ≡ 6
 EndsCall (Err (Misuse why)) number = number ≡ 7
-EndsCall (Err Asks) number = number ≡ 8
-EndsCall (Err Differs) number = number ≡ 9
+EndsCall (Err (Asks run)) number = number ≡ 8
 EndsCall (Err (Stopped limit)) number = (number ≡ status_number (status_of (Stopped limit))) ⊎ (number ≡ 5)
 
 -- the string that an engine returns

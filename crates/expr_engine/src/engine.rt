@@ -1,26 +1,26 @@
-//! An engine: programs, contexts and environments under handles, the values being built, the last result, the
-//! last message, and the run that waits for a host's reply.
-ghost use Rattle.std.specs.Prelude.{◌≡◌, ◌≢◌, [], string_bytes, IfOk, IfErr, OnOk, OnErr, IfSome, IsSome, IsOk, IsNone, MatchOption, Err, None, Some, ◌⊎◌};
+//! An engine: programs, contexts, environments and runs that wait for a host's reply, all under handles; the values
+//! being built, the last result, and the last message.
+ghost use Rattle.std.specs.Prelude.{◌≡◌, [], Ok, string_bytes, IfOk, IfErr, OnOk, OnErr, IfSome, IsOk, IsNone, MatchOption, Err, None, Some, ◌⊎◌};
 ghost use Rattle.std.specs.List.{Contains};
 ghost use Rattle.std.specs.Option.{option_copied};
 ghost use Rattle.expr_engine.specs.Adding.{BecomesByRule, BecomesFixed, BecomesNow, GainsName, GainsVersions, IsName};
-ghost use Rattle.expr_engine.specs.Effects.{Adds, AreSaid, Changes, FillsContext, ForgetsAll, IsStale, IsTextOf, TellsWhether};
-ghost use Rattle.expr_engine.specs.Engines.{IsPlacedRefusal, KeepsThings, KeepsRest, RunMayAnswer, MayEnd, NumbersRise, RefusesText, SameAdditions, additions_at, run_inputs, waiting_inputs, names_at, no_number};
+ghost use Rattle.expr_engine.specs.Effects.{Adds, AreSaid, Changes, FillsContext, ForgetsAll, IsStale, IsTextOf, TakesLast, TellsWhether};
+ghost use Rattle.expr_engine.specs.Engines.{IsPlacedRefusal, KeepsThings, KeepsRest, MayEnd, NumbersRise, RefusesText, SameAdditions, additions_at, names_at, rest_of_engine, run_inputs};
 ghost use Rattle.expr_engine.specs.Faults.{IsNotedAt, fault_byte, refused_byte};
 ghost use Rattle.expr_engine.specs.Limiting.{IsProgramBy};
 ghost use Rattle.expr_engine.specs.Promised.{IsNew};
 ghost use Rattle.expr_engine.specs.Reasons.{IsUnknownOrForMemory, RefusesName, RefusesZone};
 ghost use Rattle.expr_engine.specs.Runs.{names_or_none};
 ghost use Rattle.expr_engine.specs.Served.{RunServes, SaysWhy};
-ghost use Rattle.expr_engine.specs.Turns.{IsNewRun, IsRefusal, IsSameRun, PassesOn, RunGoesOn, WaitsIfAsks, finds_nothing, is_unknown};
+ghost use Rattle.expr_engine.specs.Turns.{EndsTurn, FailsWith, IfWaits, MayEndWith, MayGoOn, MayNotGoOn, PassesOn, Replies, SameRuns, StartsRun, TurnGives, TurnReaches, seen_at, waiting_inputs};
+ghost use Rattle.expr_exchange.specs.Builder.{values_of};
 ghost use Rattle.expr_exchange.specs.Cursor.{part_of, way_of};
 ghost use Rattle.expr_exchange.specs.Misuses.{text_of_misuse};
-ghost use Rattle.expr_exchange.specs.Refusals.{ReturnsToHost};
-ghost use Rattle.expr_exchange.specs.HandleMap.{SameNext, SameThings, thing_at};
-ghost use Rattle.expr_limits.specs.Counting.{stops as stops_at};
-ghost use Rattle.expr_stops.specs.Stops.{UsesWithin, waiting_call_of, nothing_used, replies_of, used_of};
-ghost use Rattle.expr_stops.specs.declared.replies.Reply.TheVariants as reply;
+ghost use Rattle.expr_exchange.specs.HandleMap.{Rises, SameNext, SameThings, thing_at};
+ghost use Rattle.expr_stops.specs.Stops.{UsesWithin, nothing_used};
+ghost use Rattle.expr_stops.specs.Turns.{IsPending, limits_of};
 ghost use Rattle.expr_lowering.specs.OwnedCodes.{owned_blocks};
+ghost use Rattle.expr_exchange.specs.declared.handles.Handle.{Handle};
 ghost use Rattle.expr_exchange.specs.declared.misuse.Misuse.{Misuse as Wrong};
 ghost use Rattle.expr_lowering.specs.HostNeeds.{AreFunctionsOf};
 ghost use Rattle.expr_tree.specs.Names.{AreNamesOf, block_operands, env};
@@ -29,30 +29,33 @@ ghost use Rattle.expr_value.specs.Names.{put};
 
 use crate::additions::{Additions, LentHost};
 use crate::lent::LentNames;
-use crate::rule::Rule;
-use crate::waiting_run::WaitingRun;
+use crate::rule::{Rule, SharedRule};
+use crate::waiting_run::{PendingRule, Seen, TurnEnd, WaitingRun};
 use expr_context::Context;
 use expr_encoding::JsonReader;
 use expr_exchange::{Handle, HandleMap, HostError, Misuse, ValueBuilder, ValueCursor, limit_text};
 use expr_limits::{Limits, Outcome};
 use expr_lowering::with_nil;
-use expr_stops::{EndedRun, RunStatus, Stops, Used};
+use expr_stops::{Reached, Turn, Used};
 use expr_syntax::line_column_of;
 use expr_value::{Error, Value};
 use jiff::Timestamp;
 use std::alloc::Global;
 
-/// An engine. It keeps programs, contexts and environments, and runs the programs.
+/// An engine. It keeps programs, contexts and environments, and runs the programs. It keeps the runs that wait, too.
 #[derive(Drop)]
 pub struct Engine {
     pub alloc: Global,
-    pub rules: HandleMap<Rule>,
+    pub rules: HandleMap<SharedRule>,
     pub contexts: HandleMap<Context>,
     pub environments: HandleMap<Additions>,
     pub built: ValueBuilder,
     pub answer: ValueCursor,
     pub said: String,
-    pub waits: WaitingRun,
+    /// The runs that wait for the host's reply.
+    pub runs: HandleMap<WaitingRun>,
+    /// What the run used that was the last to begin or to go on.
+    pub used: Used,
     /// Reads the JSON that calls pass in. Its memory is used again for the next text.
     pub reader: JsonReader,
     /// The limits of compiling and running. Without limits these may take all there is.
@@ -84,7 +87,8 @@ impl Engine {
             built: ValueBuilder::new(alloc),
             answer: ValueCursor::new(alloc),
             said: String::new(alloc),
-            waits: WaitingRun::new(alloc),
+            runs: HandleMap::new(alloc, tag),
+            used: Used::nothing(),
             reader: JsonReader::new(alloc),
             limits: Some(Limits::untrusted()),
         }
@@ -109,7 +113,7 @@ impl Engine {
         ensures rest { KeepsRest self.old self.new }
     {
         match Rule::compile(self.alloc, text, self.limits)? {
-            Outcome::Answered(rule) => Ok(self.rules.put(rule)?),
+            Outcome::Answered(rule) => Ok(self.rules.put(SharedRule::new(self.alloc, rule)?)?),
             Outcome::Stopped(limit) => Err(HostError::Stopped(limit)),
         }
     }
@@ -128,7 +132,7 @@ impl Engine {
         ensures why { IfErr result IsUnknownOrForMemory }
     {
         match self.rules.get(program) {
-            Some(rule) => Ok(rule.names(self.alloc)?),
+            Some(rule) => Ok(rule.get().names(self.alloc)?),
             None => Err(HostError::Unknown),
         }
     }
@@ -147,7 +151,7 @@ impl Engine {
         ensures why { IfErr result IsUnknownOrForMemory }
     {
         match self.rules.get(program) {
-            Some(rule) => Ok(rule.functions(self.alloc)?),
+            Some(rule) => Ok(rule.get().functions(self.alloc)?),
             None => Err(HostError::Unknown),
         }
     }
@@ -165,7 +169,7 @@ impl Engine {
         ensures why { IfErr result IsUnknownOrForMemory }
     {
         match self.rules.get(program) {
-            Some(rule) => Ok(rule.text(self.alloc)?),
+            Some(rule) => Ok(rule.get().text(self.alloc)?),
             None => Err(HostError::Unknown),
         }
     }
@@ -184,7 +188,7 @@ impl Engine {
         ensures why { IfErr result IsUnknownOrForMemory }
     {
         match self.rules.get(program) {
-            Some(rule) => Ok(rule.uses_env(self.alloc)?),
+            Some(rule) => Ok(rule.get().uses_env(self.alloc)?),
             None => Err(HostError::Unknown),
         }
     }
@@ -222,142 +226,6 @@ impl Engine {
         }
     }
 
-    /// Runs a program within the limits, with the replies that its run has. It ends at the program's end, or
-    /// at the next call of a function that the host runs itself.
-    #[inline(always)]
-    fn turn(
-        &self,
-        stops: &mut Stops,
-        program: Handle,
-        environment: Handle,
-        context: Handle,
-    ) -> Result<Value, HostError>
-        ensures ended { MatchOption (run_inputs self.now program environment context)
-            (result ≡ Err HostError.Unknown)
-            (λ q. ReturnsToHost result (RunMayAnswer q (replies_of stops.old))
-            (λ limit. MayEnd q (replies_of stops.old) (stops_at limit))) }
-        ensures stops { waiting_call_of stops.old ≡ None
-            → MatchOption (run_inputs self.now program environment context)
-            (result ≡ Err HostError.Unknown)
-            (λ q. WaitsIfAsks q (replies_of stops.old) result (waiting_call_of stops.new)) }
-        ensures given { replies_of stops.new ≡ replies_of stops.old }
-        ensures used { MatchOption (run_inputs self.now program environment context)
-            (result ≡ Err HostError.Unknown) (λ q. UsesWithin q.limits (used_of stops.new)) }
-    {
-        let Some(rule) = self.rules.get(program) else {
-            return Err(HostError::Unknown);
-        };
-        let host = self.host_of(environment)?;
-        let names = self.names_of(context)?;
-        match rule.turn(self.alloc, host, names, stops, self.limits) {
-            RunStatus::Ended(answer) => Ok(answer?),
-            RunStatus::Asks => Err(HostError::Asks),
-            RunStatus::Differs(_) => Err(HostError::Differs),
-            RunStatus::Stopped(limit) => Err(HostError::Stopped(limit)),
-        }
-    }
-
-    /// Starts a run of a program in an environment and a context, and keeps its result.
-    ///
-    /// # Errors
-    ///
-    /// Returns `Unknown` if a handle finds nothing, the errors of the run, `Stopped` if a limit is passed,
-    /// and `Asks` if the run needs the host's reply.
-    pub fn run(
-        &mut self,
-        program: Handle,
-        environment: Handle,
-        context: Handle,
-    ) -> Result<(), HostError>
-        ensures ended { MatchOption (run_inputs self.old program environment context)
-            (result ≡ Err HostError.Unknown) (λ q. RunServes q [] result (part_of self.new.answer)) }
-        ensures begun { MatchOption (run_inputs self.old program environment context)
-            (self.new.waits ≡ self.old.waits)
-            (λ q. IsNewRun q program environment context result self.new.waits) }
-        ensures way { OnOk result (way_of self.new.answer ≡ []) }
-        ensures err { OnErr result (self.new.answer ≡ self.old.answer) }
-        ensures kept { KeepsThings self.old self.new }
-        ensures built { self.new.built ≡ self.old.built }
-        ensures limits { self.new.limits ≡ self.old.limits }
-    {
-        if environment.number == NO_NUMBER {
-            return self.run_alone(program, environment, context);
-        }
-        let mut stops = Stops::new(self.alloc);
-        let answer = self.turn(&mut stops, program, environment, context);
-        if finds_nothing(&answer) {
-            return Err(HostError::Unknown);
-        }
-        self.waits = WaitingRun {
-            program,
-            environment,
-            context,
-            stops,
-        };
-        self.keep(answer)
-    }
-
-    /// Starts a run without an environment. It comes to no function that the host runs itself.
-    #[inline(always)]
-    fn run_alone(
-        &mut self,
-        program: Handle,
-        environment: Handle,
-        context: Handle,
-    ) -> Result<(), HostError>
-        requires alone { environment.number ≡ no_number }
-        ensures ended { MatchOption (run_inputs self.old program environment context)
-            (result ≡ Err HostError.Unknown) (λ q. RunServes q [] result (part_of self.new.answer)) }
-        ensures begun { MatchOption (run_inputs self.old program environment context)
-            (self.new.waits ≡ self.old.waits)
-            (λ q. IsNewRun q program environment context result self.new.waits) }
-        ensures way { OnOk result (way_of self.new.answer ≡ []) }
-        ensures err { OnErr result (self.new.answer ≡ self.old.answer) }
-        ensures kept { KeepsThings self.old self.new }
-        ensures built { self.new.built ≡ self.old.built }
-        ensures limits { self.new.limits ≡ self.old.limits }
-    {
-        let mut used = Used::nothing();
-        let answer = self.answer_alone(program, context, &mut used);
-        if finds_nothing(&answer) {
-            return Err(HostError::Unknown);
-        }
-        self.waits.begin(program, environment, context, used);
-        self.keep(answer)
-    }
-
-    /// Runs a program in a context within the limits, without an environment, and notes what it used.
-    #[inline(always)]
-    fn answer_alone(
-        &self,
-        program: Handle,
-        context: Handle,
-        used: &mut Used,
-    ) -> Result<Value, HostError>
-        ensures ended { (alone : Handle) → alone.number ≡ no_number
-            → MatchOption (run_inputs self.now program alone context) (result ≡ Err HostError.Unknown)
-            (λ q. ReturnsToHost result (RunMayAnswer q []) (λ limit. MayEnd q [] (stops_at limit))) }
-        ensures stops { (alone : Handle) → alone.number ≡ no_number
-            → MatchOption (run_inputs self.now program alone context) (result ≡ Err HostError.Unknown)
-            (λ q. WaitsIfAsks q [] result None) }
-        ensures used { (alone : Handle) → alone.number ≡ no_number
-            → MatchOption (run_inputs self.now program alone context) (result ≡ Err HostError.Unknown)
-            (λ q. UsesWithin q.limits used.new) }
-    {
-        let Some(rule) = self.rules.get(program) else {
-            return Err(HostError::Unknown);
-        };
-        let names = self.names_of(context)?;
-        let nothing = LentHost { added: None };
-        let ran = rule.run(self.alloc, &nothing, names, self.limits);
-        let EndedRun { went, used: took } = ran;
-        *used = took;
-        match went? {
-            Outcome::Answered(value) => Ok(value),
-            Outcome::Stopped(limit) => Err(HostError::Stopped(limit)),
-        }
-    }
-
     /// Checks the handles of a run. It is an error if one of them finds nothing.
     #[inline(always)]
     fn knows_run(
@@ -378,118 +246,224 @@ impl Engine {
         Ok(())
     }
 
-    /// Keeps the result of a run.
+    /// How often the things of a run have been changed.
     #[inline(always)]
-    fn keep(&mut self, answer: Result<Value, HostError>) -> Result<(), HostError>
-        ensures passed { PassesOn answer result (part_of self.new.answer) }
-        ensures way { OnOk result (way_of self.new.answer ≡ []) }
-        ensures err { OnErr result (self.new.answer ≡ self.old.answer) }
-        ensures waits { self.new.waits ≡ self.old.waits }
-        ensures limits { self.new.limits ≡ self.old.limits }
-        ensures kept { KeepsThings self.old self.new }
-        ensures built { self.new.built ≡ self.old.built }
+    fn seen_now(&self, environment: Handle, context: Handle) -> Seen
+        ensures { result ≡ seen_at self.now environment context }
     {
-        self.answer.keep(answer?);
-        Ok(())
-    }
-
-    /// Checks that a call waits, and that the handles of its run find something.
-    ///
-    /// # Errors
-    ///
-    /// Returns `Misuse` if no call waits, and `Unknown` if a handle of its run finds nothing.
-    pub fn knows_waiting(&self) -> Result<(), HostError>
-        ensures waits { OnOk result (IsSome (waiting_call_of self.now.waits.stops)) }
-        ensures found { OnOk result (IsSome (waiting_inputs self.now)) }
-        ensures unknown { IsStale self.now → result ≡ Err HostError.Unknown }
-        ensures known { result ≡ Err HostError.Unknown → IsStale self.now }
-        ensures refused { IfErr result
-            (λ e. (e ≡ HostError.Unknown) ⊎ (e ≡ HostError.Misuse Misuse.NoCallWaits)) }
-        ensures misused { (why : Wrong) → result ≡ Err (HostError.Misuse why)
-            → waiting_call_of self.now.waits.stops ≡ None }
-    {
-        if self.waits.stops.waiting_call().is_none() {
-            return Err(HostError::Misuse(Misuse::NoCallWaits));
+        Seen {
+            environment: self.environments.changes(environment),
+            context: self.contexts.changes(context),
         }
-        let waits = &self.waits;
-        self.knows_run(waits.program, waits.environment, waits.context)
     }
 
-    /// Replies with a value to the waiting call, and continues its run.
+    /// Runs a program within the limits, up to its end or to the first call of a function that the host runs
+    /// itself. Notes what it used.
     ///
     /// # Errors
     ///
-    /// Returns `Misuse` if no call waits, and `Unknown` if a handle of its run finds nothing. Returns the
-    /// errors of the run, `Stopped` if a limit is passed, `Asks` if it needs another reply, and `Differs` if
-    /// it comes to another call than before.
-    pub fn reply(&mut self, value: Value) -> Result<(), HostError>
-        ensures replied { IsSome (waiting_call_of self.old.waits.stops) → IsSome (waiting_inputs self.old)
-            → RunGoesOn (λ r. r ≡ reply.Value value) (waiting_inputs self.old)
-            self.old.waits self.new.waits result
-            (part_of self.new.answer) }
-        ensures found { IsSome (waiting_call_of self.old.waits.stops) → IsSome (waiting_inputs self.old)
-            → IfErr result (λ e. e ≢ HostError.Unknown) }
-        ensures meant { IsSome (waiting_call_of self.old.waits.stops) → IsSome (waiting_inputs self.old)
-            → IfErr result (λ e. (why : Wrong) → e ≢ HostError.Misuse why) }
-        ensures way { OnOk result (way_of self.new.answer ≡ []) }
-        ensures err { OnErr result (self.new.answer ≡ self.old.answer) }
-        ensures kept { KeepsThings self.old self.new }
-        ensures built { self.new.built ≡ self.old.built }
-        ensures limits { self.new.limits ≡ self.old.limits }
-    {
-        self.waits.stops.answer(value)?;
-        self.go_on()
-    }
-
-    /// Replies with an error of this message to the waiting call, and continues its run.
-    ///
-    /// # Errors
-    ///
-    /// Returns `Misuse` if no call waits, and `Unknown` if a handle of its run finds nothing. Returns the
-    /// errors of the run, `Stopped` if a limit is passed, `Asks` if it needs another reply, and `Differs` if
-    /// it comes to another call than before.
-    pub fn refuse(&mut self, text: &str) -> Result<(), HostError>
-        ensures replied { IsSome (waiting_call_of self.old.waits.stops) → IsSome (waiting_inputs self.old)
-            → RunGoesOn (IsRefusal text.now) (waiting_inputs self.old) self.old.waits self.new.waits result
-            (part_of self.new.answer) }
-        ensures found { IsSome (waiting_call_of self.old.waits.stops) → IsSome (waiting_inputs self.old)
-            → IfErr result (λ e. e ≢ HostError.Unknown) }
-        ensures meant { IsSome (waiting_call_of self.old.waits.stops) → IsSome (waiting_inputs self.old)
-            → IfErr result (λ e. (why : Wrong) → e ≢ HostError.Misuse why) }
-        ensures way { OnOk result (way_of self.new.answer ≡ []) }
-        ensures err { OnErr result (self.new.answer ≡ self.old.answer) }
-        ensures kept { KeepsThings self.old self.new }
-        ensures built { self.new.built ≡ self.old.built }
-        ensures limits { self.new.limits ≡ self.old.limits }
-    {
-        self.waits.stops.refuse(text)?;
-        self.go_on()
-    }
-
-    /// Continues the run that has a reply, and keeps its result.
+    /// Returns `Unknown` if a handle finds nothing, and `MemoryError` if the run waits and an allocation fails.
     #[inline(always)]
-    fn go_on(&mut self) -> Result<(), HostError>
-        ensures ended { MatchOption (waiting_inputs self.old) (result ≡ Err HostError.Unknown)
-            (λ q. RunServes q (replies_of self.old.waits.stops) result (part_of self.new.answer)) }
-        ensures stops { waiting_call_of self.old.waits.stops ≡ None → MatchOption (waiting_inputs self.old)
-            (result ≡ Err HostError.Unknown)
-            (λ q. WaitsIfAsks q (replies_of self.old.waits.stops) result
-            (waiting_call_of self.new.waits.stops)) }
-        ensures given { replies_of self.new.waits.stops ≡ replies_of self.old.waits.stops }
-        ensures used { MatchOption (waiting_inputs self.old) (result ≡ Err HostError.Unknown)
-            (λ q. UsesWithin q.limits (used_of self.new.waits.stops)) }
-        ensures run { IsSameRun self.old.waits self.new.waits }
+    fn begin(
+        &self,
+        program: Handle,
+        environment: Handle,
+        context: Handle,
+        used: &mut Used,
+    ) -> Result<TurnEnd, HostError>
+        ensures turn { MatchOption (run_inputs self.now program environment context)
+            ((result ≡ Err HostError.Unknown) × (used.new ≡ used.old))
+            (λ q. TurnReaches q (MayEnd q) result × UsesWithin q.limits used.new) }
+        ensures serves { MatchOption (run_inputs self.now program environment context)
+            (result ≡ Err HostError.Unknown) (λ q. TurnGives q result) }
+    {
+        let Some(rule) = self.rules.get(program) else {
+            return Err(HostError::Unknown);
+        };
+        let host = self.host_of(environment)?;
+        let names = self.names_of(context)?;
+        let Turn {
+            reached,
+            used: took,
+        } = rule.get().begin(self.alloc, host, names, self.limits);
+        *used = took;
+        turn_end(rule, reached)
+    }
+
+    /// Starts a run of a program in an environment and a context, and keeps its result.
+    ///
+    /// # Errors
+    ///
+    /// Returns `Unknown` if a handle finds nothing, the errors of the run, `Stopped` if a limit is passed,
+    /// and `Asks` with the handle of the run if it needs the host's reply.
+    #[inline(always)]
+    pub fn run(
+        &mut self,
+        program: Handle,
+        environment: Handle,
+        context: Handle,
+    ) -> Result<(), HostError>
+        ensures starts { MatchOption (run_inputs self.old program environment context)
+            (SameRuns self.old (rest_of_engine self.new))
+            (λ q. StartsRun q program environment context self.old (rest_of_engine self.new) result
+            (part_of self.new.answer)) }
+        ensures serves { MatchOption (run_inputs self.old program environment context)
+            (result ≡ Err HostError.Unknown) (λ q. RunServes q result (part_of self.new.answer)) }
         ensures way { OnOk result (way_of self.new.answer ≡ []) }
         ensures err { OnErr result (self.new.answer ≡ self.old.answer) }
+        ensures numbers { Rises self.old.runs self.new.runs }
         ensures kept { KeepsThings self.old self.new }
         ensures built { self.new.built ≡ self.old.built }
         ensures limits { self.new.limits ≡ self.old.limits }
     {
-        let mut stops = std::mem::replace(&mut self.waits.stops, Stops::new(self.alloc));
-        let waits = &self.waits;
-        let answer = self.turn(&mut stops, waits.program, waits.environment, waits.context);
-        self.waits.stops = stops;
-        self.keep(answer)
+        let mut used = self.used;
+        let begun = self.begin(program, environment, context, &mut used);
+        self.used = used;
+        match begun? {
+            TurnEnd::Ended(ended) => self.end(ended),
+            TurnEnd::Waits(pending) => {
+                let seen = self.seen_now(environment, context);
+                let handle = self.runs.put(WaitingRun {
+                    program,
+                    environment,
+                    context,
+                    seen,
+                    pending: Some(pending),
+                })?;
+                Err(HostError::Asks(handle))
+            }
+        }
+    }
+
+    /// Keeps the result of a run that has ended.
+    #[inline(always)]
+    fn end(&mut self, ended: expr_value::Result<Outcome<Value>>) -> Result<(), HostError>
+        ensures passed { PassesOn ended result (part_of self.new.answer) }
+        ensures way { OnOk result (way_of self.new.answer ≡ []) }
+        ensures err { OnErr result (self.new ≡ self.old) }
+        ensures runs { self.new.runs ≡ self.old.runs }
+        ensures used { self.new.used ≡ self.old.used }
+        ensures kept { KeepsThings self.old self.new }
+        ensures built { self.new.built ≡ self.old.built }
+        ensures limits { self.new.limits ≡ self.old.limits }
+    {
+        match ended? {
+            Outcome::Answered(value) => {
+                self.answer.keep(value);
+                Ok(())
+            }
+            Outcome::Stopped(limit) => Err(HostError::Stopped(limit)),
+        }
+    }
+
+    /// The run of a handle, if it waits and may go on.
+    ///
+    /// # Errors
+    ///
+    /// Returns `Unknown` if the handle finds no run that waits, or if a handle of the run finds nothing. Returns
+    /// `Misuse` if the context or the environment of the run was changed meanwhile.
+    pub fn waiting_run(&self, run: Handle) -> Result<&WaitingRun, HostError>
+        ensures found { IfOk result (λ waits. MayGoOn self.now run waits.now) }
+        ensures unknown { IsStale self.now run → result ≡ Err HostError.Unknown }
+        ensures why { IfErr result (MayNotGoOn self.now run) }
+    {
+        let Some(waits) = self.runs.get(run) else {
+            return Err(HostError::Unknown);
+        };
+        if waits.pending.is_none() {
+            return Err(HostError::Unknown);
+        }
+        self.knows_run(waits.program, waits.environment, waits.context)?;
+        if self.seen_now(waits.environment, waits.context) != waits.seen {
+            return Err(HostError::Misuse(Misuse::ChangedMeanwhile));
+        }
+        Ok(waits)
+    }
+
+    /// Replies with the value that was built last to the call at which a run waits, and continues the run.
+    ///
+    /// # Errors
+    ///
+    /// Returns the errors of [`Engine::waiting_run`], and `Misuse` if no value was built: the run waits as before then.
+    /// Returns the errors of the run, `Stopped` if a limit is passed, and `Asks` with the same handle if it needs another
+    /// reply.
+    pub fn reply(&mut self, run: Handle) -> Result<(), HostError>
+        ensures replied { Replies self.old run result (rest_of_engine self.new) (part_of self.new.answer) }
+        ensures unknown { IsStale self.old run → result ≡ Err HostError.Unknown }
+        ensures way { OnOk result (way_of self.new.answer ≡ []) }
+        ensures err { OnErr result (self.new.answer ≡ self.old.answer) }
+        ensures numbers { Rises self.old.runs self.new.runs }
+        ensures kept { KeepsThings self.old self.new }
+        ensures built { OnOk result (TakesLast (values_of self.old.built) (values_of self.new.built)) }
+        ensures limits { self.new.limits ≡ self.old.limits }
+    {
+        let _waits = self.waiting_run(run)?;
+        let value = self.built.pop()?;
+        let mut going = WaitingRun::nothing();
+        let _known = self.runs.swap(run, &mut going);
+        let Some(pending) = going.pending.take() else {
+            return Err(HostError::Unknown);
+        };
+        let mut used = self.used;
+        let reached = self.go_on(&going, pending, value, &mut used)?;
+        self.used = used;
+        match reached {
+            TurnEnd::Ended(ended) => {
+                let _known = self.runs.remove(run);
+                self.end(ended)
+            }
+            TurnEnd::Waits(pending) => {
+                going.pending = Some(pending);
+                let _known = self.runs.swap(run, &mut going);
+                Err(HostError::Asks(run))
+            }
+        }
+    }
+
+    /// Continues a run with the host's reply.
+    #[inline(always)]
+    fn go_on(
+        &self,
+        waits: &WaitingRun,
+        pending: PendingRule,
+        value: Value,
+        used: &mut Used,
+    ) -> Result<TurnEnd, HostError>
+        ensures turn { MatchOption (waiting_inputs self.now waits.now pending.rule) (Unit {0})
+            (λ q. TurnReaches q (MayEndWith q pending.run value) result
+            × UsesWithin (limits_of pending.run) used.new) }
+    {
+        let host = self.host_of(waits.environment)?;
+        let names = self.names_of(waits.context)?;
+        let PendingRule { rule, run } = pending;
+        let Turn {
+            reached,
+            used: took,
+        } = rule.get().reply(self.alloc, host, names, run, value);
+        *used = took;
+        Ok(match reached {
+            Reached::Ended(ended) => TurnEnd::Ended(ended),
+            Reached::Asks(run) => TurnEnd::Waits(PendingRule { rule, run }),
+        })
+    }
+
+    /// Ends a run that waits with an error, as the function fails at whose call it waits.
+    ///
+    /// # Errors
+    ///
+    /// Returns the errors of [`Engine::waiting_run`]: the run waits as before then. Otherwise it returns this error.
+    pub fn refuse(&mut self, run: Handle, error: Error) -> Result<(), HostError>
+        ensures refused { FailsWith self.old run error result (rest_of_engine self.new) }
+        ensures unknown { IsStale self.old run → result ≡ Err HostError.Unknown }
+        ensures answer { self.new.answer ≡ self.old.answer }
+        ensures numbers { Rises self.old.runs self.new.runs }
+        ensures kept { KeepsThings self.old self.new }
+        ensures built { self.new.built ≡ self.old.built }
+        ensures limits { self.new.limits ≡ self.old.limits }
+    {
+        let _waits = self.waiting_run(run)?;
+        let _known = self.runs.remove(run);
+        Err(HostError::Language(error))
     }
 
     /// Checks that a handle finds a context.
@@ -581,7 +555,7 @@ impl Engine {
         let Some(names) = self.contexts.get(context) else {
             return Err(HostError::Unknown);
         };
-        let missing = rule.missing_names(self.alloc, names)?;
+        let missing = rule.get().missing_names(self.alloc, names)?;
         if missing.is_empty() {
             return Ok(0);
         }
@@ -720,8 +694,8 @@ impl Engine {
     pub fn clear(&mut self)
         ensures done { ForgetsAll self.old self.new }
         ensures numbers { NumbersRise self.old self.new }
-        ensures waits { waiting_call_of self.new.waits.stops ≡ None }
-        ensures used { used_of self.new.waits.stops ≡ nothing_used }
+        ensures runs { (handle : Handle) → thing_at self.new.runs handle ≡ None }
+        ensures used { self.new.used ≡ nothing_used }
     {
         let alloc = self.alloc;
         self.rules.clear(alloc);
@@ -730,7 +704,8 @@ impl Engine {
         self.built = ValueBuilder::new(alloc);
         self.answer = ValueCursor::new(alloc);
         self.said = String::new(alloc);
-        self.waits = WaitingRun::new(alloc);
+        self.runs.clear(alloc);
+        self.used = Used::nothing();
         self.reader = JsonReader::new(alloc);
     }
 
@@ -747,8 +722,7 @@ impl Engine {
         ensures noted { IfOk result (IsNotedAt (refused_byte refused.now) text.now) }
         ensures unknown { refused.now ≡ HostError.Unknown → IsOk result }
         ensures misuse { (why : Wrong) → refused.now ≡ HostError.Misuse why → IsOk result }
-        ensures asks { refused.now ≡ HostError.Asks → IsOk result }
-        ensures differs { refused.now ≡ HostError.Differs → IsOk result }
+        ensures asks { (run : Handle) → refused.now ≡ HostError.Asks run → IsOk result }
         ensures said { OnOk result (SaysWhy refused.now (string_bytes self.new.said)) }
     {
         self.said = String::new(self.alloc);
@@ -762,7 +736,7 @@ impl Engine {
                 self.said = sentence_of(self.alloc, *misuse);
                 Ok(None)
             }
-            HostError::Unknown | HostError::Asks | HostError::Differs => Ok(None),
+            HostError::Unknown | HostError::Asks(_) => Ok(None),
         }
     }
 
@@ -802,23 +776,21 @@ impl Engine {
     }
 }
 
-/// Whether a handle of a run found nothing.
-fn finds_nothing(answer: &Result<Value, HostError>) -> bool
-    ensures { result ≡ finds_nothing answer.now }
+/// How far a turn of a run of this rule came.
+///
+/// # Errors
+///
+/// Returns `MemoryError` if the run waits and the rule has 2^64 - 1 owners.
+fn turn_end(rule: &SharedRule, reached: Reached) -> Result<TurnEnd, HostError>
+    requires { IfWaits reached (IsPending (owned_blocks rule.now.code)) }
+    ensures { EndsTurn rule.now reached result }
 {
-    match answer {
-        Ok(_) => false,
-        Err(refused) => is_unknown(refused),
-    }
-}
-
-/// Whether a handle found nothing.
-fn is_unknown(refused: &HostError) -> bool
-    ensures { result ≡ is_unknown refused.now }
-{
-    match refused {
-        HostError::Unknown => true,
-        _ => false,
+    match reached {
+        Reached::Ended(ended) => Ok(TurnEnd::Ended(ended)),
+        Reached::Asks(run) => Ok(TurnEnd::Waits(PendingRule {
+            rule: rule.again()?,
+            run,
+        })),
     }
 }
 

@@ -1,24 +1,15 @@
 //! Calls that drop what the engine keeps.
-ghost use Rattle.std.specs.Prelude.{◌≡◌, None, Err, IfErr, IsOk, OnErr, OnOk, Ok, if◌then◌else◌};
-ghost use Rattle.expr_engine.specs.Effects.{DropsContext, DropsEnvironment, DropsProgram, ForgetsAll};
-ghost use Rattle.expr_engine.specs.Engines.{KeepsRest, NumbersRise, SameAdditions};
-ghost use Rattle.expr_exchange.specs.HandleMap.{SameNext, SameThings, thing_at};
-ghost use Rattle.expr_stops.specs.Stops.{nothing_used, used_of, waiting_call_of};
+ghost use Rattle.expr_engine.specs.Promised.{Acts};
+ghost use Rattle.expr_exchange.specs.declared.call.Ask.TheVariants as is;
+ghost use Rattle.expr_exchange.specs.declared.call.Call.{Call};
+ghost use Rattle.std.specs.Prelude.{◌≡◌, Err, Ok};
 
 use crate::engine::Engine;
 use expr_exchange::{Call, HostError};
 
 /// Drops a program.
 pub fn drop_program(engine: &mut Engine, call: &Call<'_>) -> Result<(), HostError>
-    ensures done { OnOk result (DropsProgram engine.old engine.new call.now) }
-    ensures unknown { thing_at engine.old.rules call.now.program ≡ None → result ≡ Err HostError.Unknown }
-    ensures known { result ≡ Err HostError.Unknown → thing_at engine.old.rules call.now.program ≡ None }
-    ensures next { SameNext engine.old.rules engine.new.rules }
-    ensures err { OnErr result (SameThings engine.old.rules engine.new.rules) }
-    ensures contexts { engine.new.contexts ≡ engine.old.contexts }
-    ensures environments { engine.new.environments ≡ engine.old.environments }
-    ensures rest { KeepsRest engine.old engine.new }
-    ensures why { IfErr result (λ e. e ≡ HostError.Unknown) }
+    ensures { Acts is.DropProgram engine.old engine.new call.now call.now result }
 {
     let is_known = engine.rules.remove(call.program);
     check_known(is_known)
@@ -26,16 +17,7 @@ pub fn drop_program(engine: &mut Engine, call: &Call<'_>) -> Result<(), HostErro
 
 /// Drops a context.
 pub fn drop_context(engine: &mut Engine, call: &Call<'_>) -> Result<(), HostError>
-    ensures done { OnOk result (DropsContext engine.old engine.new call.now) }
-    ensures unknown { thing_at engine.old.contexts call.now.context ≡ None → result ≡ Err HostError.Unknown }
-    ensures known { result ≡ Err HostError.Unknown
-        → thing_at engine.old.contexts call.now.context ≡ None }
-    ensures next { SameNext engine.old.contexts engine.new.contexts }
-    ensures err { OnErr result (SameThings engine.old.contexts engine.new.contexts) }
-    ensures rules { engine.new.rules ≡ engine.old.rules }
-    ensures environments { engine.new.environments ≡ engine.old.environments }
-    ensures rest { KeepsRest engine.old engine.new }
-    ensures why { IfErr result (λ e. e ≡ HostError.Unknown) }
+    ensures { Acts is.DropContext engine.old engine.new call.now call.now result }
 {
     let is_known = engine.contexts.remove(call.context);
     check_known(is_known)
@@ -44,17 +26,7 @@ pub fn drop_context(engine: &mut Engine, call: &Call<'_>) -> Result<(), HostErro
 /// Drops an environment.
 #[tactic(auto, using(crate::proofs::Unchanged::additions_by_things))]
 pub fn drop_environment(engine: &mut Engine, call: &Call<'_>) -> Result<(), HostError>
-    ensures done { OnOk result (DropsEnvironment engine.old engine.new call.now) }
-    ensures unknown { thing_at engine.old.environments call.now.environment ≡ None
-        → result ≡ Err HostError.Unknown }
-    ensures known { result ≡ Err HostError.Unknown
-        → thing_at engine.old.environments call.now.environment ≡ None }
-    ensures next { SameNext engine.old.environments engine.new.environments }
-    ensures err { OnErr result (SameAdditions engine.old.environments engine.new.environments) }
-    ensures rules { engine.new.rules ≡ engine.old.rules }
-    ensures contexts { engine.new.contexts ≡ engine.old.contexts }
-    ensures rest { KeepsRest engine.old engine.new }
-    ensures why { IfErr result (λ e. e ≡ HostError.Unknown) }
+    ensures { Acts is.DropEnvironment engine.old engine.new call.now call.now result }
 {
     let is_known = engine.environments.remove(call.environment);
     check_known(is_known)
@@ -73,13 +45,7 @@ fn check_known(is_known: bool) -> Result<(), HostError>
 
 /// Drops everything that the engine keeps, except the limits.
 pub fn clear(engine: &mut Engine) -> Result<(), HostError>
-    ensures done { OnOk result (ForgetsAll engine.old engine.new) }
-    ensures numbers { NumbersRise engine.old engine.new }
-    ensures ok { IsOk result }
-    ensures waits { waiting_call_of engine.new.waits.stops ≡ None }
-    ensures used { used_of engine.new.waits.stops ≡ nothing_used }
-    ensures limits { engine.new.limits ≡ engine.old.limits }
-    ensures why { IfErr result (λ _. ⊥) }
+    ensures { (call : Call) → Acts is.Clear engine.old engine.new call call result }
 {
     engine.clear();
     Ok(())

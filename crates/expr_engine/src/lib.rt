@@ -1,5 +1,5 @@
-//! An engine for hosts that are not written in Rattle: programs, contexts and environments under handles, and
-//! one function that handles every call.
+//! An engine for hosts that are not written in Rattle: programs, contexts, environments and runs that wait, all
+//! under handles, and one function that handles every call.
 #![tactic(auto)]
 
 mod adding;
@@ -22,6 +22,6 @@ pub use engine::Engine;
 pub use expr_exchange::{Call, Handle, HostError, Kind, Misuse, Status};
 pub use expr_limits::{Limit, Limits};
 pub use lent::LentNames;
-pub use rule::Rule;
+pub use rule::{Rule, SharedRule};
 pub use serving::serve;
-pub use waiting_run::WaitingRun;
+pub use waiting_run::{PendingRule, Seen, TurnEnd, WaitingRun};

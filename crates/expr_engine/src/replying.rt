@@ -1,80 +1,73 @@
-//! Calls about the function call that waits for a host's reply.
-ghost use Rattle.std.specs.Prelude.{◌≡◌, ◌≢◌, ◌⊎◌, [], IfErr, IsUtf8, None, OnErr, OnOk};
-ghost use Rattle.expr_engine.specs.Effects.{EndsRun, IsStale, LooksAtCall, TakesLast, call_result};
-ghost use Rattle.expr_engine.specs.Engines.{KeepsThings, waiting_inputs};
-ghost use Rattle.expr_engine.specs.Turns.{IsAnswer, IsRefusal, RunGoesOn};
-ghost use Rattle.expr_exchange.specs.Builder.{values_of};
-ghost use Rattle.expr_exchange.specs.Cursor.{part_of};
-ghost use Rattle.expr_exchange.specs.Refusals.{NotThere};
-ghost use Rattle.expr_exchange.specs.declared.misuse.Misuse.{Misuse as Wrong};
-ghost use Rattle.expr_stops.specs.Stops.{waiting_call_of};
+//! Calls about runs that wait for a host's reply.
+ghost use Rattle.std.specs.Prelude.{IfErr, IfOk};
+ghost use Rattle.expr_engine.specs.Promised.{Acts};
+ghost use Rattle.expr_engine.specs.Turns.{IsFailure, IsFailureKind};
+ghost use Rattle.expr_exchange.specs.Refusals.{NotMeant};
+ghost use Rattle.expr_exchange.specs.declared.call.Ask.TheVariants as is;
 
 use crate::engine::Engine;
 use crate::looking::describe;
 use crate::running::utf8;
 use expr_exchange::{Call, HostError, Misuse};
-use expr_value::Value;
+use expr_value::{Error, Value};
+use std::alloc::Global;
 
-/// Replies to the waiting call with the value that was built last, and continues its run.
+/// Replies to the call at which a run waits with the value that was built last, and continues the run.
 pub fn answer_call(engine: &mut Engine, call: &mut Call<'_>) -> Result<(), HostError>
-    ensures done { OnOk result (EndsRun TakesLast engine.old engine.new (call_result call.new)) }
-    ensures why { IfErr result (λ e. (why : Wrong) → e ≡ HostError.Misuse why
-        → (waiting_call_of engine.old.waits.stops ≡ None) ⊎ (values_of engine.old.built ≡ [])) }
-    ensures turns { RunGoesOn (IsAnswer (values_of engine.old.built))
-        (waiting_inputs engine.old) engine.old.waits
-        engine.new.waits result (part_of engine.new.answer) }
-    ensures unknown { IsStale engine.old → result ≡ Err HostError.Unknown }
-    ensures known { result ≡ Err HostError.Unknown → IsStale engine.old }
-    ensures answer { OnErr result (engine.new.answer ≡ engine.old.answer) }
-    ensures kept { KeepsThings engine.old engine.new }
-    ensures limits { engine.new.limits ≡ engine.old.limits }
-    ensures room { call.new.room.now ≡ call.old.room.now }
+    ensures { Acts is.Answer engine.old engine.new call.old call.new result }
 {
-    engine.knows_waiting()?;
-    let value = engine.built.pop()?;
-    engine.reply(value)?;
+    engine.reply(call.run)?;
     describe(engine.answer.part(), call);
     Ok(())
 }
 
-/// Replies to the waiting call with an error, and continues its run.
+/// Ends a run that waits with an error.
 pub fn refuse_call(engine: &mut Engine, call: &mut Call<'_>) -> Result<(), HostError>
-    ensures done { OnOk result
-        (EndsRun (λ was is. is ≡ was) engine.old engine.new (call_result call.new)) }
-    ensures why { IfErr result (λ e. (why : Wrong) → e ≡ HostError.Misuse why
-        → (waiting_call_of engine.old.waits.stops ≡ None) ⊎ (IsUtf8 call.old.text.now → ⊥)) }
-    ensures turns { RunGoesOn (IsRefusal call.old.text.now) (waiting_inputs engine.old) engine.old.waits
-        engine.new.waits result (part_of engine.new.answer) }
-    ensures unknown { IsStale engine.old → result ≡ Err HostError.Unknown }
-    ensures known { result ≡ Err HostError.Unknown → IsStale engine.old }
-    ensures answer { OnErr result (engine.new.answer ≡ engine.old.answer) }
-    ensures kept { KeepsThings engine.old engine.new }
-    ensures limits { engine.new.limits ≡ engine.old.limits }
-    ensures room { call.new.room.now ≡ call.old.room.now }
+    ensures { Acts is.Refuse engine.old engine.new call.old call.new result }
 {
-    engine.knows_waiting()?;
-    let text = utf8(call.text)?;
-    engine.refuse(text)?;
-    describe(engine.answer.part(), call);
-    Ok(())
+    let _waits = engine.waiting_run(call.run)?;
+    let failure = failure_of(engine.alloc, call.kind, utf8(call.text)?)?;
+    engine.refuse(call.run, failure)
 }
 
-/// Moves the cursor to copies of the waiting call's arguments. The message is the name of its function.
-pub fn look_at_waiting_call(engine: &mut Engine, call: &mut Call<'_>) -> Result<(), HostError>
-    ensures done { OnOk result (LooksAtCall engine.old engine.new (call_result call.new)) }
-    ensures found { IfErr result (λ e. e ≢ HostError.Unknown) }
-    ensures answer { OnErr result (engine.new.answer ≡ engine.old.answer) }
-    ensures waits { engine.new.waits ≡ engine.old.waits }
-    ensures kept { KeepsThings engine.old engine.new }
-    ensures limits { engine.new.limits ≡ engine.old.limits }
-    ensures room { call.new.room.now ≡ call.old.room.now }
-    ensures why { IfErr result (NotThere (waiting_call_of engine.old.waits.stops)) }
+/// The error of this kind with this message: a function fails with one of the status `Literal`, `Evaluation` or `Memory`.
+fn failure_of(alloc: Global, kind: u32, text: &str) -> Result<Error, HostError>
+    ensures error { IfOk result (IsFailure kind text.now) }
+    ensures refused { IfErr result (NotMeant (IsFailureKind kind)) }
 {
-    let Some(stop) = engine.waits.stops.waiting_call() else {
-        return Err(HostError::Misuse(Misuse::NoCallWaits));
+    match kind {
+        2 => Ok(Error::ParseError(String::from_str(alloc, text)?)),
+        3 => Ok(Error::ExprError(String::from_str(alloc, text)?)),
+        5 => Ok(Error::MemoryError),
+        _ => Err(HostError::Misuse(Misuse::NoFailure)),
+    }
+}
+
+/// Drops a run that waits.
+pub fn cancel_run(engine: &mut Engine, call: &Call<'_>) -> Result<(), HostError>
+    ensures { Acts is.Cancel engine.old engine.new call.now call.now result }
+{
+    if engine.runs.remove(call.run) {
+        Ok(())
+    } else {
+        Err(HostError::Unknown)
+    }
+}
+
+/// Moves the cursor to copies of the arguments of the call at which a run waits. The message is the name of its
+/// function.
+pub fn look_at_waiting_call(engine: &mut Engine, call: &mut Call<'_>) -> Result<(), HostError>
+    ensures { Acts is.WaitingCall engine.old engine.new call.old call.new result }
+{
+    let Some(waits) = engine.runs.get(call.run) else {
+        return Err(HostError::Unknown);
     };
-    let arguments = stop.call.args.clone()?;
-    engine.said = stop.call.ident.clone()?;
+    let Some(pending) = &waits.pending else {
+        return Err(HostError::Unknown);
+    };
+    let asked = pending.run.call();
+    let arguments = asked.args.clone()?;
+    engine.said = asked.ident.clone()?;
     engine.answer.keep(Value::from(arguments));
     describe(engine.answer.part(), call);
     Ok(())

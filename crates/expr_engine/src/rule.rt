@@ -13,13 +13,14 @@ use crate::lent::LentNames;
 use expr_context::Context;
 use expr_limits::{Limits, Outcome};
 use expr_lowering::{Code, OwnedCode, functions_of, missing_names};
-use expr_meaning::Functions;
-use expr_stops::{EndedRun, RunStatus, Stops, execute_in};
+use expr_stops::{EndedRun, PendingRun, Reached, StopNames, Turn, execute_in};
 use expr_syntax::{compile, compile_limited};
 use expr_text::to_code;
 use expr_tree::node::Program;
-use expr_value::Result;
-use std::alloc::Global;
+use expr_value::{Result, Value};
+use std::alloc::{AllocError, Global};
+use std::marker::Model;
+use std::rc::Rc;
 
 /// A program and its code.
 #[derive(Drop)]
@@ -31,7 +32,7 @@ pub struct Rule {
 }
 
 impl Rule {
-    ghost use Rattle.std.specs.Prelude.{◌≡◌, IfOk, None, map, string_bytes};
+    ghost use Rattle.std.specs.Prelude.{IfOk, Ok, map, string_bytes};
     ghost use Rattle.std.specs.List.{Contains};
     ghost use Rattle.expr_lowering.specs.HostNeeds.{AreFunctionsOf, AreMissing};
     ghost use Rattle.expr_tree.specs.Names.{AreNamesOf, block_operands, env};
@@ -41,12 +42,11 @@ impl Rule {
     ghost use Rattle.expr_engine.specs.Effects.{AreSaid, IsTextOf, TellsWhether};
     ghost use Rattle.expr_error.specs.ErrorKind.{OnlyMemory};
     ghost use Rattle.expr_context.specs.Contexts.{context_of};
-    ghost use Rattle.expr_engine.specs.Runs.{MeaningAllows, host_with_replies, named_by, names_or_none};
-    ghost use Rattle.expr_limits.specs.Outcomes.{ReturnsOutcome};
-    ghost use Rattle.expr_stops.specs.Stops.{CodeComes, EndsTurn, IfEnded, StopsWell, UsesWithin, waiting_call_of, replies_of, used_of};
+    ghost use Rattle.expr_engine.specs.Runs.{MeaningAllows, host_of_run, names_or_none};
+    ghost use Rattle.expr_stops.specs.Stops.{UsesWithin};
+    ghost use Rattle.expr_stops.specs.Turns.{CodeBegins, IfEnded, IsPending, PendingComes, StopsWithin, TurnsOver, limits_of};
     ghost use Rattle.expr_syntax.specs.Texts.{IsPlaced};
     ghost use Rattle.expr_tree.specs.TermOf.{program_term};
-    ghost use Rattle.expr_value.specs.Answers.{Returns};
 
     /// Compiles an expression, within limits or without.
     ///
@@ -133,63 +133,134 @@ impl Rule {
         missing_names(alloc, &self.code, context)
     }
 
-    /// Runs the program, within limits or without.
-    ///
-    /// It ends with the first error in the order of evaluation: `ExprError`, `RegexError`, or `MemoryError` if an
-    /// allocation fails. Passing a limit is not an error: it ends with [`Outcome::Stopped`].
+    /// Runs the program, within limits or without, up to its end or to the first call of a function that the host
+    /// runs itself.
     #[inline(always)]
-    pub fn run<H: Functions>(
-        &self,
-        alloc: Global,
-        host: &H,
-        names: LentNames<'_>,
-        limits: Option<Limits>,
-    ) -> EndedRun
-        ensures answer { GivesWithin result.went (MeaningAllows (world_of (H.host host.now)
-            (context_of (names_or_none (option_copied names.entry.names)))) (program_term self.now.program)) }
-        ensures ends { ReturnsOutcome result.went (CodeComes limits (world_of (H.host host.now)
-            (context_of (names_or_none (option_copied names.entry.names)))) (owned_blocks self.now.code)) }
-        ensures used { UsesWithin limits result.used }
-    {
-        execute_in(alloc, host, &self.code, names, limits)
-    }
-
-    /// Runs the program within limits, with the replies that its run has. It ends at the program's end, or at
-    /// the next call of a function that the host runs itself.
-    #[inline(always)]
-    pub fn turn(
+    pub fn begin(
         &self,
         alloc: Global,
         host: LentHost<'_>,
         names: LentNames<'_>,
-        stops: &mut Stops,
         limits: Option<Limits>,
-    ) -> RunStatus
-        // It ends, or stops at a limit, as a counted run of the program's code does within the limits, if
-        // there are any.
-        ensures ends { EndsTurn result (CodeComes limits
-            (world_of (host_with_replies (option_copied host.entry.added) (replies_of stops.old))
-            (context_of (names_or_none (option_copied names.entry.names)))) (owned_blocks self.now.code)) }
-        // The result is one that the program's meaning allows.
-        ensures ended { IfEnded result (λ r. Returns r (MeaningAllows
-            (world_of (host_with_replies (option_copied host.entry.added) (replies_of stops.old))
-            (context_of (names_or_none (option_copied names.entry.names))))
-            (program_term self.now.program))) }
-        ensures stops { waiting_call_of stops.old ≡ None
-            → StopsWell (named_by (option_copied host.entry.added))
-            (replies_of stops.old) result (waiting_call_of stops.new) }
-        ensures given { replies_of stops.new ≡ replies_of stops.old }
-        // It notes what it used, which is within the limits.
-        ensures used { UsesWithin limits (used_of stops.new) }
+    ) -> Turn
+        ensures turn { let world = world_of (host_of_run (option_copied host.entry.added))
+            (context_of (names_or_none (option_copied names.entry.names))) in
+            TurnsOver world (owned_blocks self.now.code)
+            (CodeBegins world (owned_blocks self.now.code) limits) result }
+        // A result is one that the program's meaning allows.
+        ensures allowed { let world = world_of (host_of_run (option_copied host.entry.added))
+            (context_of (names_or_none (option_copied names.entry.names))) in
+            IfEnded result.reached (λ r. GivesWithin r
+            (MeaningAllows world (program_term self.now.program))) }
+        ensures within { IfEnded result.reached (StopsWithin limits) }
+        ensures used { UsesWithin limits result.used }
     {
         match host.added {
-            Some(added) => stops.execute(&host, added.names(), &self.code, names, limits),
+            Some(added) => expr_stops::begin(
+                alloc,
+                &host,
+                added.names(),
+                &self.code,
+                names,
+                limits,
+            ),
             None => {
-                let EndedRun { went, used } = self.run(alloc, &host, names, limits);
-                stops.note_used(used);
-                RunStatus::of(went)
+                let EndedRun { went, used } = execute_in(alloc, &host, &self.code, names, limits);
+                Turn {
+                    reached: Reached::Ended(went),
+                    used,
+                }
             }
         }
+    }
+
+    /// Continues a run of the program with the host's reply.
+    #[inline(always)]
+    pub fn reply(
+        &self,
+        alloc: Global,
+        host: LentHost<'_>,
+        names: LentNames<'_>,
+        pending: PendingRun,
+        value: Value,
+    ) -> Turn
+        requires { IsPending (owned_blocks self.now.code) pending }
+        ensures turn { let world = world_of (host_of_run (option_copied host.entry.added))
+            (context_of (names_or_none (option_copied names.entry.names))) in
+            TurnsOver world (owned_blocks self.now.code)
+            (PendingComes world (owned_blocks self.now.code) pending (Ok value)) result }
+        ensures used { UsesWithin (limits_of pending) result.used }
+    {
+        match host.added {
+            Some(added) => pending.reply(alloc, &host, added.names(), &self.code, names, value),
+            None => {
+                let nothing = StopNames::new(alloc);
+                pending.reply(alloc, &host, &nothing, &self.code, names, value)
+            }
+        }
+    }
+}
+
+/// A rule that its handle and the runs that wait in it share. Contracts see the rule.
+pub struct SharedRule {
+    at: Rc<Rule>,
+}
+
+// Written by hand so that dropping one is a single step in proofs of callers.
+impl Drop for SharedRule {
+    #[inline(always)]
+    fn drop(self) {
+        let SharedRule { at: _ } = self;
+    }
+}
+
+impl Model for SharedRule {
+    ghost use Rattle.expr_engine.specs.contracts.rule.Rule.{the_row};
+    ghost use Rattle.expr_engine.specs.declared.rule.Rule.{Rule as declared};
+
+    ghost Value = { declared };
+
+    ghost coded = { the_row.coded };
+
+    ghost view = { λ s. s.at.value };
+}
+
+impl SharedRule {
+    ghost use Rattle.std.specs.Prelude.{◌≡◌, IfOk};
+
+    /// A rule to share.
+    ///
+    /// # Errors
+    ///
+    /// Returns `AllocError` if an allocation fails.
+    pub fn new(alloc: Global, rule: Rule) -> std::result::Result<SharedRule, AllocError>
+        ensures { IfOk result (λ shared. shared ≡ rule) }
+    {
+        match Rc::new(alloc, rule) {
+            Ok(at) => Ok(SharedRule { at }),
+            Err(_) => Err(AllocError),
+        }
+    }
+
+    /// The rule.
+    #[inline(always)]
+    pub fn get(&self) -> &Rule
+        ensures { result.now ≡ self.now }
+    {
+        self.at.as_ref()
+    }
+
+    /// The same rule for one more owner.
+    ///
+    /// # Errors
+    ///
+    /// Returns `AllocError` after 2^64 - 1 owners.
+    pub fn again(&self) -> std::result::Result<SharedRule, AllocError>
+        ensures { IfOk result (λ shared. shared ≡ self.now) }
+    {
+        Ok(SharedRule {
+            at: self.at.clone()?,
+        })
     }
 }
 

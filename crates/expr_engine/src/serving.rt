@@ -7,6 +7,7 @@ ghost use Rattle.expr_engine.specs.Promised.{Acts, IsServed};
 ghost use Rattle.expr_engine.specs.Served.{EndsCall, ShowsText, status_number, text_in_room, text_shown};
 ghost use Rattle.expr_exchange.specs.Builder.{values_of};
 ghost use Rattle.expr_exchange.specs.Refusals.{status_of};
+ghost use Rattle.expr_exchange.specs.declared.handles.Handle.{Handle};
 ghost use Rattle.expr_exchange.specs.declared.misuse.Misuse.{Misuse as Wrong};
 
 use crate::adding::{
@@ -18,7 +19,7 @@ use crate::filling::{built_context, fill_missing, new_context, set};
 use crate::letting::{clear, drop_context, drop_environment, drop_program};
 use crate::limiting::{let_go_of_limits, set_limit, tell_used};
 use crate::looking::{look, look_down, look_up, say_json, say_shown, say_text, show_key};
-use crate::replying::{answer_call, look_at_waiting_call, refuse_call};
+use crate::replying::{answer_call, cancel_run, look_at_waiting_call, refuse_call};
 use crate::running::{compile, functions, names, program_text, run, uses_env};
 use expr_exchange::{Ask, Call, HostError, Misuse, Shows, Status, bytes_of};
 
@@ -84,6 +85,7 @@ fn act(engine: &mut Engine, call: &mut Call<'_>, ask: Ask) -> Result<(), HostErr
         Ask::Versions => add_versions(engine, call),
         Ask::ProgramText => program_text(engine, call),
         Ask::Used => tell_used(engine, call),
+        Ask::Cancel => cancel_run(engine, call),
     }
 }
 
@@ -98,6 +100,7 @@ fn finish(engine: &mut Engine, call: &mut Call<'_>, shows: Shows, done: Result<(
     ensures ended { EndsCall done call.new.status }
     ensures placed { IfErr done (λ refused. IsAt (refused_byte refused) call.old.text.now
         (text_place call.new) ⊎ (call.new.status ≡ 5)) }
+    ensures waits { (run : Handle) → done ≡ Err (HostError.Asks run) → call.new.run ≡ run }
     ensures unknown { done ≡ Err HostError.Unknown → call.new.status ≡ 6 }
     ensures known { call.new.status ≡ 6 → done ≡ Err HostError.Unknown }
     ensures misuse { (why : Wrong) → done ≡ Err (HostError.Misuse why) → call.new.status ≡ 7 }
@@ -118,6 +121,7 @@ fn finish(engine: &mut Engine, call: &mut Call<'_>, shows: Shows, done: Result<(
 fn answer(engine: &Engine, call: &mut Call<'_>, status: Status, shows: Shows)
     ensures reply { call_result call.new ≡ call_result call.old }
     ensures place { text_place call.new ≡ text_place call.old }
+    ensures run { call.new.run ≡ call.old.run }
     ensures status { call.new.status ≡ status_number status }
     ensures shown { ShowsText (text_shown shows engine.now) call.old.room.now call.new }
 {
@@ -153,12 +157,11 @@ fn number(status: Status) -> u32
         Status::Unknown => 6,
         Status::Misuse => 7,
         Status::Asks => 8,
-        Status::Differs => 9,
-        Status::Nesting => 10,
-        Status::Patterns => 11,
-        Status::Steps => 12,
-        Status::Depth => 13,
-        Status::Size => 14,
+        Status::Nesting => 9,
+        Status::Patterns => 10,
+        Status::Steps => 11,
+        Status::Depth => 12,
+        Status::Size => 13,
     }
 }
 
@@ -174,10 +177,13 @@ fn refuse(engine: &mut Engine, refused: &HostError, call: &mut Call<'_>) -> Stat
         ⊎ (result ≡ Status.Memory) }
     ensures unknown { refused.now ≡ HostError.Unknown → result ≡ Status.Unknown }
     ensures misuse { (why : Wrong) → refused.now ≡ HostError.Misuse why → result ≡ Status.Misuse }
-    ensures asks { refused.now ≡ HostError.Asks → result ≡ Status.Asks }
-    ensures differs { refused.now ≡ HostError.Differs → result ≡ Status.Differs }
+    ensures asks { (run : Handle) → refused.now ≡ HostError.Asks run
+        → (result ≡ Status.Asks) × (call.new.run ≡ run) }
 {
     engine.built.clear();
+    if let HostError::Asks(run) = refused {
+        call.run = *run;
+    }
     match engine.note(refused, call.text) {
         Ok(noted) => {
             mark(call, noted);
@@ -191,6 +197,7 @@ fn refuse(engine: &mut Engine, refused: &HostError, call: &mut Call<'_>) -> Stat
 fn mark(call: &mut Call<'_>, noted: Option<TextPlace>)
     ensures reply { call_result call.new ≡ call_result call.old }
     ensures room { call.new.room.now ≡ call.old.room.now }
+    ensures run { call.new.run ≡ call.old.run }
     ensures place { IfSome noted (λ place. text_place call.new ≡ place) }
 {
     match noted {

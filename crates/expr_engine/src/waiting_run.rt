@@ -1,26 +1,66 @@
-//! The run that waits for a host's reply.
-ghost use Rattle.std.specs.Prelude.{◌≡◌, [], None};
-ghost use Rattle.expr_stops.specs.Stops.{nothing_used, replies_of, used_of, waiting_call_of};
+//! Runs that wait for a host's reply.
+ghost use Rattle.std.specs.Prelude.{◌≡◌, None};
 
+use crate::rule::SharedRule;
 use expr_exchange::Handle;
-use expr_stops::{Stops, Used};
-use std::alloc::Global;
+use expr_limits::Outcome;
+use expr_stops::PendingRun;
+use expr_value::{Result, Value};
+use std::marker::Model;
 
-/// A run of a program: its handles, the replies that it has, and the call that waits for one, if there is
-/// one.
+/// A run that waits for the host's reply: its handles, how often their things had been changed when it began, and how far
+/// it has come.
 #[derive(Drop)]
 pub struct WaitingRun {
     pub program: Handle,
     pub environment: Handle,
     pub context: Handle,
-    pub stops: Stops,
+    pub seen: Seen,
+    /// Nothing while it goes on.
+    pub pending: Option<PendingRule>,
+}
+
+/// A rule in which a run waits: the run is of its code, and may be given a reply.
+#[derive(Drop)]
+pub struct PendingRule {
+    pub rule: SharedRule,
+    pub run: PendingRun,
+}
+
+impl Model for PendingRule {
+    ghost use Rattle.expr_engine.specs.Pending.{PendingView, pending_view_code};
+    ghost use Rattle.expr_lowering.specs.OwnedCodes.{owned_blocks};
+    ghost use Rattle.expr_stops.specs.Turns.{IsPending};
+
+    ghost Value = { PendingView };
+
+    ghost coded = { pending_view_code };
+
+    ghost view = { λ p. record { rule = p.rule; run = p.run } };
+
+    ghost invariant = { λ p. IsPending (owned_blocks p.rule.code) p.run };
+}
+
+/// How far a turn of a run came.
+#[derive(Drop)]
+pub enum TurnEnd {
+    /// The run has ended.
+    Ended(Result<Outcome<Value>>),
+    /// It waits for the host's reply.
+    Waits(PendingRule),
+}
+
+/// How often the things of a run had been changed.
+#[derive(Clone, Copy, PartialEq, Eq)]
+pub struct Seen {
+    pub environment: Option<u64>,
+    pub context: Option<u64>,
 }
 
 impl WaitingRun {
-    /// No run. It allocates no memory.
-    pub fn new(alloc: Global) -> WaitingRun
-        ensures waits { waiting_call_of result.stops ≡ None }
-        ensures used { used_of result.stops ≡ nothing_used }
+    /// What stands in the place of a run that goes on.
+    pub fn nothing() -> WaitingRun
+        ensures { result.pending ≡ None }
     {
         let nothing = Handle {
             tag: 0,
@@ -31,24 +71,11 @@ impl WaitingRun {
             program: nothing,
             environment: nothing,
             context: nothing,
-            stops: Stops::new(alloc),
+            seen: Seen {
+                environment: None,
+                context: None,
+            },
+            pending: None,
         }
-    }
-
-    /// Starts a run with these handles and no replies. It used this much of its limits.
-    #[inline(always)]
-    pub fn begin(&mut self, program: Handle, environment: Handle, context: Handle, used: Used)
-        ensures program { self.new.program ≡ program }
-        ensures environment { self.new.environment ≡ environment }
-        ensures context { self.new.context ≡ context }
-        ensures given { replies_of self.new.stops ≡ [] }
-        ensures waits { waiting_call_of self.new.stops ≡ None }
-        ensures used { used_of self.new.stops ≡ used }
-    {
-        self.program = program;
-        self.environment = environment;
-        self.context = context;
-        self.stops.forget();
-        self.stops.note_used(used);
     }
 }

@@ -46,6 +46,7 @@ all_asks =
     ∷ is.Versions
     ∷ is.ProgramText
     ∷ is.Used
+    ∷ is.Cancel
     ∷ []
 
 abbrev pub ask_of : ℕ → Option Ask
@@ -55,7 +56,6 @@ ask_of number = slice_get all_asks number
 abbrev pub shows_of : Ask → Shows
 shows_of is.Run = Value
 shows_of is.Answer = Value
-shows_of is.Refuse = Value
 shows_of is.Look = Value
 shows_of is.Down = Value
 shows_of is.Up = Value

@@ -3,7 +3,7 @@ use Rattle.std.specs.Prelude.{◌≡◌, ◌≢◌, ◌≤ℤ◌, ℕ, ℤ, pos,
 use Rattle.expr_exchange.specs.Maps.{map_in_turn}
 use Rattle.expr_exchange.specs.declared.builder.ValueBuilder.{ValueBuilder}
 use Rattle.expr_exchange.specs.declared.host_error.HostError.{HostError}
-use Rattle.expr_exchange.specs.declared.host_error.HostError.TheVariants.{Language, Unknown, Misuse, Asks, Differs, Stopped}
+use Rattle.expr_exchange.specs.declared.host_error.HostError.TheVariants.{Language, Unknown, Misuse, Asks, Stopped}
 use Rattle.expr_error.specs.ErrorKind.{error_kind, evaluation, memory}
 use Rattle.expr_value.specs.Values.{map_of}
 use Rattle.expr_value.specs.declared.value.Value.{Value}
@@ -27,8 +27,7 @@ abbrev pub NoContext : List Value → HostError → Type 0
 NoContext values (Language error) = error_kind error ≢ memory → (error_kind error ≡ evaluation) × (EndsInMap values → ⊥)
 NoContext values Unknown = ⊥
 NoContext values (Misuse why) = values ≡ []
-NoContext values Asks = ⊥
-NoContext values Differs = ⊥
+NoContext values (Asks run) = ⊥
 NoContext values (Stopped limit) = ⊥
 
 -- Another value replaced this many last values.

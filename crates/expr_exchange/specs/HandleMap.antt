@@ -23,6 +23,14 @@ module _ {T : Type 0} where
   abbrev pub thing_at : HandleMap T → Handle → Option T
   thing_at k h = if h.tag == k.tag then thing_if h.number (get k.slots h.place) else None
 
+  abbrev changes_if : ℕ → Option (NumberedThing T) → Option ℕ
+  changes_if number None = None
+  changes_if number (Some n) = if n.number == number then Some n.changes else None
+
+  -- how often the thing of a handle was exchanged
+  abbrev pub changes_at : HandleMap T → Handle → Option ℕ
+  changes_at k h = if h.tag == k.tag then changes_if h.number (get k.slots h.place) else None
+
   -- the number of the next thing
   abbrev pub next_number : HandleMap T → ℕ
   next_number k = k.next

@@ -1,7 +1,7 @@
 -- How calls end, and what they return.
 use Rattle.std.specs.Prelude.{◌≡◌, ◌≢◌, Option, None, Result, Ok, Err}
 use Rattle.expr_exchange.specs.declared.host_error.HostError.{HostError}
-use Rattle.expr_exchange.specs.declared.host_error.HostError.TheVariants.{Language, Unknown, Misuse, Asks, Differs, Stopped}
+use Rattle.expr_exchange.specs.declared.host_error.HostError.TheVariants.{Language, Unknown, Misuse, Asks, Stopped}
 use Rattle.expr_exchange.specs.declared.host_error.Status.{Status}
 use Rattle.expr_exchange.specs.declared.host_error.Status.TheVariants as ends
 use Rattle.expr_limits.specs.declared.limit.Limit.{Limit}
@@ -28,8 +28,7 @@ abbrev pub status_of : HostError → Status
 status_of (Language error) = ends_by (error_kind error)
 status_of Unknown = ends.Unknown
 status_of (Misuse why) = ends.Misuse
-status_of Asks = ends.Asks
-status_of Differs = ends.Differs
+status_of (Asks run) = ends.Asks
 status_of (Stopped limit) = ends_at limit
 
 -- The language returns one of these results or lacks memory, or the run stops for a reply or at such a limit.
@@ -39,8 +38,7 @@ ReturnsToHost (Ok v) allowed passed = allowed (Ok v)
 ReturnsToHost (Err (Language error)) allowed passed = error_kind error ≢ memory → allowed (Err (error_kind error))
 ReturnsToHost (Err Unknown) allowed passed = ⊥
 ReturnsToHost (Err (Misuse why)) allowed passed = ⊥
-ReturnsToHost (Err Asks) allowed passed = Unit {0}
-ReturnsToHost (Err Differs) allowed passed = Unit {0}
+ReturnsToHost (Err (Asks run)) allowed passed = Unit {0}
 ReturnsToHost (Err (Stopped limit)) allowed passed = passed limit
 
 -- A call makes no sense.
@@ -48,8 +46,7 @@ abbrev pub IsMisuse : HostError → Type 0
 IsMisuse (Language error) = ⊥
 IsMisuse Unknown = ⊥
 IsMisuse (Misuse why) = Unit {0}
-IsMisuse Asks = ⊥
-IsMisuse Differs = ⊥
+IsMisuse (Asks run) = ⊥
 IsMisuse (Stopped limit) = ⊥
 
 -- A lack of memory.
@@ -57,8 +54,7 @@ abbrev pub IsForMemory : HostError → Type 0
 IsForMemory (Language error) = error_kind error ≡ memory
 IsForMemory Unknown = ⊥
 IsForMemory (Misuse why) = ⊥
-IsForMemory Asks = ⊥
-IsForMemory Differs = ⊥
+IsForMemory (Asks run) = ⊥
 IsForMemory (Stopped limit) = ⊥
 
 -- An error of the language that this result allows, or a lack of memory.
@@ -66,8 +62,7 @@ abbrev pub AnswerRefuses : {A : Type 0} → Result A ErrorKind → HostError →
 AnswerRefuses answer (Language error) = error_kind error ≢ memory → answer ≡ Err (error_kind error)
 AnswerRefuses answer Unknown = ⊥
 AnswerRefuses answer (Misuse why) = ⊥
-AnswerRefuses answer Asks = ⊥
-AnswerRefuses answer Differs = ⊥
+AnswerRefuses answer (Asks run) = ⊥
 AnswerRefuses answer (Stopped limit) = ⊥
 
 -- An error for what isn't there, or a lack of memory.
@@ -75,8 +70,7 @@ abbrev pub NotThere : {A : Type 0} → Option A → HostError → Type 0
 NotThere sought (Language error) = error_kind error ≡ memory
 NotThere sought Unknown = ⊥
 NotThere sought (Misuse why) = sought ≡ None
-NotThere sought Asks = ⊥
-NotThere sought Differs = ⊥
+NotThere sought (Asks run) = ⊥
 NotThere sought (Stopped limit) = ⊥
 
 -- An error for what has no meaning, or a lack of memory.
@@ -84,6 +78,5 @@ abbrev pub NotMeant : Type 0 → HostError → Type 0
 NotMeant Means (Language error) = error_kind error ≡ memory
 NotMeant Means Unknown = ⊥
 NotMeant Means (Misuse why) = Means → ⊥
-NotMeant Means Asks = ⊥
-NotMeant Means Differs = ⊥
+NotMeant Means (Asks run) = ⊥
 NotMeant Means (Stopped limit) = ⊥

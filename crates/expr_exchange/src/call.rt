@@ -21,6 +21,8 @@ pub struct Call<'a> {
     pub program: Handle,
     pub context: Handle,
     pub environment: Handle,
+    /// A run that waits for the host's reply.
+    pub run: Handle,
     /// An integer, a boolean (0 or 1), a duration in nanoseconds, a month or a day of the week. Of a DateTime
     /// it is the second since 1970. Otherwise it counts items or names.
     pub number: i64,
@@ -91,14 +93,13 @@ pub enum Ask {
     Clear,
     /// Adds `name` to the functions of an environment that the host runs itself.
     Name,
-    /// Replies to the waiting call with the value that was built last, and continues its run. The run has the
-    /// whole of its limits again.
+    /// Replies to the call at which a run waits with the value that was built last, and continues the run.
     Answer,
-    /// Replies to the waiting call with an error whose message is `text`, and continues its run. The run has
-    /// the whole of its limits again.
+    /// Ends a run that waits with an error, as its function fails. `kind` is the number of the status that says
+    /// which error it is: `Literal`, `Evaluation` or `Memory`. `text` is its message.
     Refuse,
-    /// Moves the cursor to the arguments of the waiting call, an array of copies, and returns the name of its
-    /// function.
+    /// Moves the cursor to the arguments of the call at which a run waits, an array of copies, and returns the
+    /// name of its function.
     WaitingCall,
     /// Sets a limit to `number`, which must not be below 0. `kind` is the number of the limit, as
     /// [`limit_numbered`](crate::limit_numbered) numbers them. If there were no limits, the others become
@@ -119,10 +120,11 @@ pub enum Ask {
     /// Returns the text of a program, in the normal form.
     ProgramText,
     /// Returns how much of a limit the last run used. `kind` is the number of the limit, steps or size, and
-    /// `number` how many steps the run took or the most size that it held at once. Without limits nothing is
-    /// counted, and before the first run and after `Clear` nothing was used: it is 0 then. A reply begins
-    /// the count anew.
+    /// `number` how many steps the run took or the most size that it held at once, since its start. Without
+    /// limits nothing is counted, and before the first run and after `Clear` nothing was used: it is 0 then.
     Used,
+    /// Drops a run that waits.
+    Cancel,
 }
 
 /// Which string a call returns.
@@ -141,7 +143,7 @@ impl Ask {
         ensures { result ≡ shows_of self }
     {
         match self {
-            Ask::Run | Ask::Answer | Ask::Refuse => Shows::Value,
+            Ask::Run | Ask::Answer => Shows::Value,
             Ask::Look | Ask::Down | Ask::Up => Shows::Value,
             Ask::Names | Ask::Key | Ask::Shown | Ask::Text => Shows::Said,
             Ask::Json | Ask::Said | Ask::WaitingCall | Ask::Functions => Shows::Said,
@@ -193,6 +195,7 @@ impl Ask {
             35 => Some(Ask::Versions),
             36 => Some(Ask::ProgramText),
             37 => Some(Ask::Used),
+            38 => Some(Ask::Cancel),
             _ => None,
         }
     }

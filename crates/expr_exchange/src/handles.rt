@@ -2,7 +2,7 @@
 //! a map with another tag finds nothing either.
 ghost use Rattle.std.specs.Prelude.{◌≡◌, ◌≢◌, ◌+◌, IfOk, None, OnErr, Some, if◌then◌else◌, is_some, option_map};
 ghost use Rattle.std.specs.Option.{option_copied, unwrap_or};
-ghost use Rattle.expr_exchange.specs.HandleMap.{KeepsOthers, SameThings, thing_at, is_same, next_number, tag_of};
+ghost use Rattle.expr_exchange.specs.HandleMap.{KeepsOthers, SameThings, changes_at, thing_at, is_same, next_number, tag_of};
 ghost use Rattle.expr_exchange.specs.declared.handles.Handle.{Handle};
 
 use slab::Slab;
@@ -21,6 +21,8 @@ pub struct Handle {
 #[derive(Drop)]
 struct NumberedThing<T: Drop> {
     number: u64,
+    /// How often it was exchanged for another.
+    changes: u64,
     thing: T,
 }
 
@@ -60,6 +62,20 @@ impl<T: Drop> HandleMap<T> {
         }
     }
 
+    /// How often the thing of a handle was exchanged for another, if the map still has it.
+    #[inline(always)]
+    pub fn changes(&self, handle: Handle) -> Option<u64>
+        ensures { result ≡ changes_at self.now handle }
+    {
+        if handle.tag != self.tag {
+            return None;
+        }
+        match self.slots.get(handle.place as usize) {
+            Some(numbered) if numbered.number == handle.number => Some(numbered.changes),
+            _ => None,
+        }
+    }
+
     /// Exchanges the thing of a handle for another. Returns whether the map has the handle. If not, nothing
     /// changes.
     pub fn swap(&mut self, handle: Handle, thing: &mut T) -> bool
@@ -75,6 +91,7 @@ impl<T: Drop> HandleMap<T> {
         }
         match self.slots.get_mut(handle.place as usize) {
             Some(numbered) if numbered.number == handle.number => {
+                numbered.changes = numbered.changes.wrapping_add(1);
                 std::mem::swap(&mut numbered.thing, thing);
                 true
             }
@@ -106,7 +123,11 @@ impl<T: Drop> HandleMap<T> {
         let Ok(place) = u32::try_from(self.slots.vacant_key()) else {
             return Err(AllocError);
         };
-        match self.slots.insert(NumberedThing { number, thing }) {
+        match self.slots.insert(NumberedThing {
+            number,
+            changes: 0,
+            thing,
+        }) {
             Ok(_) => {
                 self.next = next;
                 Ok(Handle {

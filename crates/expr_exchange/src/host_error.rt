@@ -4,6 +4,7 @@ ghost use Rattle.expr_exchange.specs.Refusals.{status_of};
 ghost use Rattle.expr_exchange.specs.declared.host_error.HostError.TheVariants.{Language};
 ghost use Rattle.expr_error.specs.declared.error.Error.TheVariants.{MemoryError};
 
+use crate::handles::Handle;
 use crate::misuse::Misuse;
 use expr_limits::Limit;
 use expr_value::Error;
@@ -24,8 +25,6 @@ pub enum Status {
     Misuse,
     /// A run waits for the host's reply to a call of one of its functions.
     Asks,
-    /// A run came to another call than the recorded one.
-    Differs,
     /// The tree of an expression is higher than the limit.
     Nesting,
     /// The literal patterns of an expression weigh more than the limit.
@@ -47,10 +46,8 @@ pub enum HostError {
     Unknown,
     /// A call makes no sense.
     Misuse(Misuse),
-    /// A run waits for the host's reply.
-    Asks,
-    /// A run came to another call than the recorded one.
-    Differs,
+    /// A run waits for the host's reply, under this handle.
+    Asks(Handle),
     /// A compilation or a run would have passed this limit.
     Stopped(Limit),
 }
@@ -68,8 +65,7 @@ impl HostError {
             HostError::Language(Error::MemoryError) => Status::Memory,
             HostError::Unknown => Status::Unknown,
             HostError::Misuse(_) => Status::Misuse,
-            HostError::Asks => Status::Asks,
-            HostError::Differs => Status::Differs,
+            HostError::Asks(_) => Status::Asks,
             HostError::Stopped(Limit::Nesting) => Status::Nesting,
             HostError::Stopped(Limit::Patterns) => Status::Patterns,
             HostError::Stopped(Limit::Steps) => Status::Steps,

@@ -25,8 +25,10 @@ pub enum Misuse {
     NoPart,
     /// The cursor is on the whole value, so there is nothing around it.
     AtWhole,
-    /// No call of a host's function waits for a reply.
-    NoCallWaits,
+    /// The context or the environment of a run was changed while the run waited.
+    ChangedMeanwhile,
+    /// No function fails with an error of this kind.
+    NoFailure,
     /// No DateTime has these seconds and nanoseconds.
     NoMoment,
     /// No month has this number.
@@ -53,7 +55,10 @@ impl Misuse {
             Misuse::TooFewBuilt => "the call takes more values than were built",
             Misuse::NoPart => "the value has no item or key of this number",
             Misuse::AtWhole => "the cursor is on the whole value already",
-            Misuse::NoCallWaits => "no call waits for a reply",
+            Misuse::ChangedMeanwhile => {
+                "the context or the environment of the run was changed while it waited"
+            }
+            Misuse::NoFailure => "no function fails with an error of this kind",
             Misuse::NoMoment => "the seconds and nanoseconds of a DateTime are out of range",
             Misuse::NoMonth => "a month must be a number from 1 to 12",
             Misuse::NoWeekday => "a day of the week must be a number from 0 to 6",

@@ -1,21 +1,30 @@
 //! Runs that stop at calls of a host's functions.
 ghost use Rattle.std.proofs.Common.{inl, inr};
-ghost use Rattle.std.specs.Prelude.{◌≡◌};
-ghost use Rattle.expr_frames.specs.Halts.{is_named};
+ghost use Rattle.std.specs.Prelude.{◌≡◌, ℕ, Bool, List};
 
 use crate::halt::{Asked, Halt, RunMeter, halt_at};
 use expr_limits::{Budget, Meter, NoMeter};
 use expr_value::Value;
 use std::alloc::Global;
 
-/// A meter of a run that stops at the calls of some functions of the host. Another meter counts for it.
-#[derive(Drop)]
-pub struct Asking<'n, M> {
-    pub meter: M,
-    pub names: &'n [String],
+/// The names of the functions that a host runs itself.
+pub trait HostNames {
+    /// Whether a function of this name is one of them.
+    ghost named: { Self → List ℕ → Bool };
+
+    /// Whether a function of this name is one of them.
+    fn has_name(&self, name: &str) -> bool
+        ensures { result ≡ named self.now name.now };
 }
 
-impl<'n, M: Meter> Meter for Asking<'n, M> {
+/// A meter of a run that stops at the calls of the functions that its host runs itself. Another meter counts for it.
+#[derive(Drop)]
+pub struct Asking<'n, N, M> {
+    pub meter: M,
+    pub names: &'n N,
+}
+
+impl<'n, N: HostNames, M: Meter> Meter for Asking<'n, N, M> {
     type Stop = M::Stop;
 
     ghost metered = { λ asking. M.metered asking.meter };
@@ -90,24 +99,10 @@ impl<'n, M: Meter> Meter for Asking<'n, M> {
     }
 }
 
-impl<'n, M> Asking<'n, M> {
-    /// Whether one of the functions has this name.
-    fn has(&self, name: &str) -> bool
-        ensures { result ≡ is_named self.now.names.now name.now }
-    {
-        for it in self.names {
-            if it.as_str() == name {
-                return true;
-            }
-        }
-        false
-    }
-}
-
-impl<'n> RunMeter for Asking<'n, Budget> {
+impl<'n, N: HostNames> RunMeter for Asking<'n, N, Budget> {
     type Halt = Halt;
 
-    ghost stops = { λ asking. is_named asking.names.now };
+    ghost stops = { λ asking. N.named asking.names.now };
 
     ghost halt = { λ h. h };
 
@@ -120,7 +115,7 @@ impl<'n> RunMeter for Asking<'n, Budget> {
     ghost halts = { λ _ _ made. inl made };
 
     fn stops_at(&self, name: &str) -> bool {
-        self.has(name)
+        self.names.has_name(name)
     }
 
     fn asks(&self, alloc: Global, asked: Asked) -> Halt {
@@ -133,10 +128,10 @@ impl<'n> RunMeter for Asking<'n, Budget> {
     }
 }
 
-impl<'n> RunMeter for Asking<'n, NoMeter> {
+impl<'n, N: HostNames> RunMeter for Asking<'n, N, NoMeter> {
     type Halt = Halt;
 
-    ghost stops = { λ asking. is_named asking.names.now };
+    ghost stops = { λ asking. N.named asking.names.now };
 
     ghost halt = { λ h. h };
 
@@ -149,7 +144,7 @@ impl<'n> RunMeter for Asking<'n, NoMeter> {
     ghost halts = { λ _ _ made. inr made };
 
     fn stops_at(&self, name: &str) -> bool {
-        self.has(name)
+        self.names.has_name(name)
     }
 
     fn asks(&self, alloc: Global, asked: Asked) -> Halt {

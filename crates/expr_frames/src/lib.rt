@@ -5,6 +5,6 @@ mod asking;
 mod halt;
 mod lent;
 
-pub use asking::Asking;
+pub use asking::{Asking, HostNames};
 pub use halt::{Asked, Awaited, Halt, Halted, RunMeter};
 pub use lent::Lent;

@@ -29,4 +29,5 @@ pub mod Taking
 pub mod Told
 pub mod Unmatched
 pub mod Unpaid
+pub mod Waits
 pub mod Within

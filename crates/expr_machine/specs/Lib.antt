@@ -3,6 +3,7 @@ pub mod Ended
 pub mod Firsts
 pub mod Folding
 pub mod Given
+pub mod Pausing
 pub mod Promises
 pub mod Saying
 pub mod Seen

@@ -95,3 +95,9 @@ acc_out run = acc_arg run.gathered
 -- the arguments of the predicate for that item
 abbrev pub pending_args : PredicateRun → Value → PredicateArgsView
 pending_args run item = record { item = item; index = index_out run; acc = acc_out run }
+
+-- the same call, after as many items and with the same results; the items that remain are the same too
+pub record IsSameRun (old new : PredicateRun) : Type 0 where
+  pub left : remaining_items new ≡ remaining_items old
+  pub asked : new.asked ≡ old.asked
+  pub gathered : new.gathered ≡ old.gathered

@@ -1,4 +1,5 @@
 //! The items for which the predicate is still to be called.
+<<<<<<< ours
 ghost use Rattle.std.specs.Prelude.{◌≡◌, ◌∷◌, [], IfSome, MatchOption, false, reverse};
 ghost use Rattle.expr_arguments.specs.Arrays.{array_items};
 ghost use Rattle.expr_arguments.specs.Cow.{cow_value};
@@ -9,6 +10,19 @@ ghost use Rattle.expr_predicates.specs.Remaining.{are_lent, items_remaining};
 use crate::run::Plain;
 use expr_arguments::{Array, Cow};
 use expr_value::Value;
+=======
+ghost use Rattle.std.specs.Prelude.{◌≡◌, ◌∷◌, [], IfOk, MatchOption, reverse};
+ghost use Rattle.expr_arguments.specs.Arrays.{array_items};
+ghost use Rattle.expr_error.specs.ErrorKind.{OnlyMemory};
+ghost use Rattle.expr_predicates.specs.Plains.{plain_value};
+ghost use Rattle.expr_predicates.specs.Remaining.{items_remaining};
+
+use crate::run::Plain;
+use expr_arguments::{Array, CowValue};
+use expr_limits::weigh;
+use expr_value::{Error, Result, Value};
+use std::alloc::Global;
+>>>>>>> theirs
 
 /// The items that remain, owned or borrowed.
 #[derive(Drop)]
@@ -118,4 +132,45 @@ impl<'s> Remaining<'s> {
             }
         }
     }
+
+    /// The same items, owned. Borrowed ones are copied, and their weight is subtracted from `size`.
+    ///
+    /// # Errors
+    ///
+    /// Returns `MemoryError` if an allocation fails, or if there is no size left.
+    pub(crate) fn into_owned(self, alloc: Global, size: &mut u64) -> Result<Remaining<'static>>
+        ensures items { IfOk result (λ owned. items_remaining owned ≡ items_remaining self.entry) }
+        ensures refusal { OnlyMemory result }
+    {
+        match self {
+            Remaining::Owned(items) => Ok(Remaining::Owned(items)),
+            Remaining::Front(items) => {
+                take_weights(items, size)?;
+                let mut items = items.to_vec(alloc)?;
+                items.reverse();
+                Ok(Remaining::Owned(items))
+            }
+            Remaining::Back(items) => {
+                take_weights(items, size)?;
+                Ok(Remaining::Owned(items.to_vec(alloc)?))
+            }
+        }
+    }
+}
+
+/// Subtracts the weights of these values from `size`.
+///
+/// # Errors
+///
+/// Returns `MemoryError` if there is no size left.
+fn take_weights(values: &[Value], size: &mut u64) -> Result<()>
+    ensures { OnlyMemory result }
+{
+    for value in values {
+        match weigh(value, *size, usize::MAX) {
+            Ok(left) => *size = left,
+            Err(_) => return Err(Error::MemoryError),
+        }
+    }
+    Ok(())
 }

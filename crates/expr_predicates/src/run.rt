@@ -1,7 +1,7 @@
 //! A run of a predicate over the items of an array.
 ghost use Rattle.std.specs.Prelude.{◌≡◌, ℕ, ◌+◌, ◌<◌, ◌^◌, ◌∷◌, ◌++◌, [], List, reverse, length, IfOk, IfSome, IsSomeAnd, Ok, Err, Some, None, option_map, true, false};
 ghost use Rattle.expr_value.specs.Answers.{Returns};
-ghost use Rattle.expr_error.specs.ErrorKind.{evaluation, IsOfKind, RefusesWith};
+ghost use Rattle.expr_error.specs.ErrorKind.{evaluation, IsOfKind, OnlyMemory, RefusesWith};
 ghost use Rattle.expr_arguments.specs.Arrays.{array_items};
 ghost use Rattle.expr_arguments.specs.Cow.{cow_value};
 ghost use Rattle.expr_predicates.specs.Calls.{SortsItems};
@@ -219,7 +219,11 @@ impl<'s> PredicateRun<'s> {
     ghost use Rattle.std.specs.Prelude.{is_some};
     ghost use Rattle.expr_predicates.specs.Plains.{IsIntegerItem, plain_value};
     ghost use Rattle.expr_predicates.specs.Calls.{fold_of_call, fold_over_if, reduce_from_first, fold_of};
+<<<<<<< ours
     ghost use Rattle.expr_predicates.specs.Accumulators.{Awaits, RunRepresents, StartsWith, acc_out, has_lent_items, pending_args, index_out, remaining_items, remaining_count};
+=======
+    ghost use Rattle.expr_predicates.specs.Accumulators.{Awaits, IsSameRun, RunRepresents, StartsWith, acc_out, pending_args, index_out, remaining_items, remaining_count};
+>>>>>>> theirs
     ghost use Rattle.expr_predicates.specs.Runs.{FoldMayReturn, AnswersItself, next_args};
     ghost use Rattle.expr_predicates.specs.Folds.{Fold, ItemAnswer, FoldOutcome, args_about, first_place, front_fold, has_stopped, refuses_answer, tells_acc, tells_index};
 
@@ -616,6 +620,28 @@ impl<'s> PredicateRun<'s> {
             gathered,
         } = self;
         gathered.outcome(alloc)
+    }
+
+    /// The same call, with items that it owns. Borrowed ones are copied, and their weight is subtracted from `size`.
+    ///
+    /// # Errors
+    ///
+    /// Returns `MemoryError` if an allocation fails, or if there is no size left. The call is lost then.
+    pub fn into_owned(self, alloc: Global, size: &mut u64) -> Result<PredicateRun<'static>>
+        ensures same { IfOk result (λ owned. IsSameRun self.entry owned) }
+        ensures refusal { OnlyMemory result }
+    {
+        let PredicateRun {
+            left,
+            asked,
+            gathered,
+        } = self;
+        let left = left.into_owned(alloc, size)?;
+        Ok(PredicateRun {
+            left,
+            asked,
+            gathered,
+        })
     }
 }
 

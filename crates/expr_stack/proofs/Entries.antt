@@ -6,7 +6,7 @@ use Rattle.expr_stack.specs.Cells.{IsPlain, top_of}
 use Rattle.expr_stack.specs.declared.cell.Cell.TheVariants as cell
 use Rattle.expr_stack.specs.declared.cell.Cell.{Cell}
 use Rattle.expr_stack.specs.declared.entry.Entry.{Entry}
-use Rattle.expr_stack.specs.declared.entry.Entry.TheVariants.{Empty, Integer, Bool as Truth, Lent, Kept, Own}
+use Rattle.expr_stack.specs.declared.entry.Entry.TheVariants.{Empty, Integer, Bool as Truth, Lent, Shared, Kept, Own}
 use Rattle.expr_value.specs.declared.value.Value.{Value}
 use Rattle.expr_stack.proofs.Places.{empty_cells}
 
@@ -19,6 +19,7 @@ filled_rest Empty entries f = empty_filled entries f
 filled_rest (Integer n) entries f = f
 filled_rest (Truth b) entries f = f
 filled_rest (Lent r) entries f = f
+filled_rest (Shared r) entries f = f
 filled_rest (Kept p) entries f = f
 filled_rest Own entries f = f
 
@@ -28,6 +29,7 @@ skip_cells Empty entries own = refl
 skip_cells (Integer n) entries own = refl
 skip_cells (Truth b) entries own = refl
 skip_cells (Lent r) entries own = refl
+skip_cells (Shared r) entries own = refl
 skip_cells (Kept p) entries own = refl
 skip_cells Own entries [] = refl
 skip_cells Own entries (v ∷ own) = refl
@@ -37,6 +39,7 @@ skip_own Empty entries own h = h
 skip_own (Integer n) entries own h = h
 skip_own (Truth b) entries own h = h
 skip_own (Lent r) entries own h = h
+skip_own (Shared r) entries own h = h
 skip_own (Kept p) entries own h = h
 skip_own Own entries [] h = h
 skip_own Own entries (v ∷ own) h = h
@@ -46,6 +49,7 @@ skip_filled Empty entries f = f.1
 skip_filled (Integer n) entries f = empty_filled entries f
 skip_filled (Truth b) entries f = empty_filled entries f
 skip_filled (Lent r) entries f = empty_filled entries f
+skip_filled (Shared r) entries f = empty_filled entries f
 skip_filled (Kept p) entries f = empty_filled entries f
 skip_filled Own entries f = empty_filled entries f
 
@@ -55,6 +59,7 @@ put_own Empty own h = h
 put_own (Integer n) own h = h
 put_own (Truth b) own h = h
 put_own (Lent r) own h = h
+put_own (Shared r) own h = h
 put_own (Kept p) own h = h
 put_own Own [] h = h
 put_own Own (v ∷ own) h = h
@@ -64,6 +69,7 @@ put_filled Empty = (refl, tt)
 put_filled (Integer n) = tt
 put_filled (Truth b) = tt
 put_filled (Lent r) = tt
+put_filled (Shared r) = tt
 put_filled (Kept p) = tt
 put_filled Own = tt
 
@@ -80,6 +86,7 @@ under_top Empty entries own x rest n f e = let none = empty_cells entries own f 
 under_top (Integer k) entries own x rest n f e = cc
 under_top (Truth b) entries own x rest n f e = cc
 under_top (Lent r) entries own x rest n f e = cc
+under_top (Shared r) entries own x rest n f e = cc
 under_top (Kept p) entries own x rest n f e = cc
 under_top Own entries own x rest n f e = absurd (n refl)
 
@@ -88,6 +95,7 @@ own_under Empty entries own n h = h
 own_under (Integer k) entries own n h = h
 own_under (Truth b) entries own n h = h
 own_under (Lent r) entries own n h = h
+own_under (Shared r) entries own n h = h
 own_under (Kept p) entries own n h = h
 own_under Own entries own n h = absurd (n refl)
 
@@ -100,6 +108,7 @@ under_not_empty Empty below own (c ∷ d ∷ cells) f e l = let none = empty_cel
 under_not_empty (Integer k) below own (c ∷ d ∷ cells) f e l = let none = empty_cells (reverse below) own f in absurd (cc)
 under_not_empty (Truth b) below own (c ∷ d ∷ cells) f e l = let none = empty_cells (reverse below) own f in absurd (cc)
 under_not_empty (Lent r) below own (c ∷ d ∷ cells) f e l = let none = empty_cells (reverse below) own f in absurd (cc)
+under_not_empty (Shared r) below own (c ∷ d ∷ cells) f e l = let none = empty_cells (reverse below) own f in absurd (cc)
 under_not_empty (Kept p) below own (c ∷ d ∷ cells) f e l = let none = empty_cells (reverse below) own f in absurd (cc)
 under_not_empty Own below [] (c ∷ d ∷ cells) f e l = absurd (cc)
 under_not_empty Own below (v ∷ own) (c ∷ d ∷ cells) f e l = let none = empty_cells (reverse below) own f in absurd (cc)
@@ -127,6 +136,7 @@ plain_top Empty entries own n f = subst (λ cells. IsPlain (top_of cells)) (sym 
 plain_top (Integer k) entries own n f = tt
 plain_top (Truth b) entries own n f = tt
 plain_top (Lent r) entries own n f = tt
+plain_top (Shared r) entries own n f = tt
 plain_top (Kept p) entries own n f = tt
 plain_top Own entries own n f = absurd (n refl)
 
@@ -137,6 +147,7 @@ none_empty (Empty ∷ entries) own h e = (refl, none_empty entries own h e)
 none_empty (Integer k ∷ entries) own h e = absurd (cc)
 none_empty (Truth b ∷ entries) own h e = absurd (cc)
 none_empty (Lent r ∷ entries) own h e = absurd (cc)
+none_empty (Shared r ∷ entries) own h e = absurd (cc)
 none_empty (Kept p ∷ entries) own h e = absurd (cc)
 none_empty (Own ∷ entries) [] h e = absurd h
 none_empty (Own ∷ entries) (v ∷ own) h e = absurd (cc)
@@ -148,6 +159,7 @@ under_only Empty entries own x f e p = let none = empty_cells entries own f in a
 under_only (Integer k) entries own x f e p = (λ o. absurd (cc), cc)
 under_only (Truth b) entries own x f e p = (λ o. absurd (cc), cc)
 under_only (Lent r) entries own x f e p = (λ o. absurd (cc), cc)
+under_only (Shared r) entries own x f e p = (λ o. absurd (cc), cc)
 under_only (Kept k) entries own x f e p = (λ o. absurd (cc), cc)
 under_only Own entries [] x f e p = absurd (cc)
 under_only Own entries (v ∷ own) x f e p = let owns : cell.Own v ≡ x = cc in absurd (subst IsPlain (sym owns) p)

@@ -10,7 +10,7 @@ use Rattle.expr_stack.specs.Operands.{cell_of}
 use Rattle.expr_stack.specs.declared.cell.Cell.TheVariants as cell
 use Rattle.expr_stack.specs.declared.cell.Cell.{Cell}
 use Rattle.expr_stack.specs.declared.operand.Operand.{Operand}
-use Rattle.expr_stack.specs.declared.operand.Operand.TheVariants.{Integer, Bool as Truth, Lent, Kept}
+use Rattle.expr_stack.specs.declared.operand.Operand.TheVariants.{Integer, Bool as Truth, Lent, Shared, Kept}
 use Rattle.expr_arguments.specs.AllocFree.{is_alloc_free_value}
 use Rattle.expr_value.specs.declared.value.Value as value
 use Rattle.expr_value.specs.declared.value.Value.{Value, out-Value}
@@ -86,6 +86,7 @@ pub held_operand : (kept : List Value) (op : Operand) → settle (held_of kept (
 held_operand kept (Integer n) = refl
 held_operand kept (Truth b) = refl
 held_operand kept (Lent r) = refl
+held_operand kept (Shared r) = refl
 held_operand kept (Kept p) = refl
 
 -- integers and booleans are lent, and need no allocation

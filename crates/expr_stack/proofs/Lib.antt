@@ -1,6 +1,8 @@
+pub mod Alike
 pub mod Beside
 pub mod Cuts
 pub mod Entries
+pub mod Grown
 pub mod Helds
 pub mod Off
 pub mod Owned

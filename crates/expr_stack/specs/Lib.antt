@@ -1,5 +1,6 @@
 pub mod Bindings
 pub mod Cells
+pub mod Detached
 pub mod Held
 pub mod Memories
 pub mod Operands

@@ -3,15 +3,19 @@
 
 mod acts;
 mod cell;
+mod detached;
 mod entry;
 mod integers;
 mod many;
 mod memory;
 mod operand;
+mod shared;
 mod stack;
 
 pub use cell::Cell;
+pub use detached::{DetachedMemory, DetachedStack};
 pub use many::map_under;
 pub use memory::Memory;
 pub use operand::{Operand, TopOperand};
+pub use shared::SharedValue;
 pub use stack::Stack;

@@ -1,18 +1,15 @@
-//! Functions that a host runs itself: a run stops at a call of one, and continues with the host's reply.
+//! Functions that a host runs itself: which names these are, what a run asks, and what it used. A run stops at a call of one,
+//! and goes on with the host's reply.
 #![tactic(auto)]
 
+mod asked_host;
 mod limited;
 mod names;
-mod replay;
-mod replays;
-mod replies;
-mod stops;
+mod turns;
 mod used;
 
 pub use expr_meaning::ExprCall;
 pub use limited::{EndedRun, execute_in};
 pub use names::StopNames;
-pub use replay::Stop;
-pub use replies::{CallReply, Reply};
-pub use stops::{RunStatus, Stops};
+pub use turns::{PendingRun, Reached, Turn, begin};
 pub use used::Used;

@@ -41,6 +41,13 @@ impl StopNames {
         Ok(())
     }
 
+    /// Whether no name is registered.
+    pub fn is_empty(&self) -> bool
+        ensures { result ≡ true → (key : List ℕ) → is_named self.now key ≡ false }
+    {
+        self.names.is_empty()
+    }
+
     /// Whether a name is registered.
     pub fn has(&self, name: &str) -> bool
         ensures { result ≡ is_named self.now name.now }

@@ -3,7 +3,7 @@
 from __future__ import annotations
 
 # begin: numbers, by hosts/border.py --write
-_OK, _SYNTAX, _ASKS, _LIMITS = 0, 1, 8, 10
+_OK, _SYNTAX, _ASKS, _LIMITS = 0, 1, 8, 9
 _STATUS = [
     "ok",
     "syntax",
@@ -14,7 +14,6 @@ _STATUS = [
     "unknown",
     "misuse",
     "asks",
-    "differs",
     "nesting",
     "patterns",
     "steps",

@@ -287,44 +287,23 @@ class _Runs:
         status = engine.ask(
             LIBRARY.run, self.compiled, self.environment, context, engine.to_answer
         )
-        calls = 0
-        while status == _ASKS:
-            if limits is not None and calls >= limits[5]:
-                why = "the run calls your functions more often than the limit of calls"
-                raise LimitError("calls", engine.origin + why)
-            calls += 1
-            status = self._reply(engine.asked(), read(engine))
-
-    def _reply(self, name: str, arguments: Iterable[Any]) -> int:
-        """Calls a function of the environment, and goes on with the run."""
-        function, fault = self.functions[name], None
+        waits = LIBRARY.waits(engine._at)
         try:
-            if self.kept is None:
-                value = function(*arguments)
-            else:
-                reads = self.program._read_by(self.engine)
-                value, fault = self.kept._called(  # type: ignore[attr-defined]
-                    name, function, arguments, reads
-                )
+            while status == _ASKS:
+                status = self._reply(waits, engine.asked(waits), read(engine))
+        except BaseException:
+            LIBRARY.cancel(engine._at, waits)  # finds nothing where the run is over
+            raise
+
+    def _reply(self, waits: _Handle, name: str, arguments: Iterable[Any]) -> int:
+        """Calls a function of the environment, and goes on with the run."""
+        try:
+            value = self.functions[name](*arguments)
         except LimitError:
             raise
         except Error as error:
-            return self._refuse(error)
-        if fault is not None:
-            raise fault
+            raise self._error(error.kind, str(error)) from error
         build(self.engine, value, f"what {name} returns")
-        status = self.engine.ask(LIBRARY.reply, self.engine.to_answer)
+        status = self.engine.ask(LIBRARY.reply, waits, self.engine.to_answer)
         self.engine.builds = False
         return status
-
-    def _refuse(self, error: Error) -> int:
-        """Ends the run with an error of a function, or with a limit that the run comes to."""
-        text, engine = str(error).encode(errors="replace"), self.engine
-        try:
-            return engine.ask(LIBRARY.refuse, text, len(text), engine.to_answer)
-        except LimitError as stopped:
-            raise stopped from error
-        except Error as ended:
-            if str(ended).encode() != engine.origin.encode() + text:
-                raise ended from error
-            raise self._error(error.kind, str(error)) from error

@@ -2,13 +2,11 @@
 
 from __future__ import annotations
 
-import threading
-from collections.abc import Callable, Collection, Iterable, Iterator, Mapping, MutableMapping
-from typing import Any, Optional, Union
+from collections.abc import Iterable, Iterator, Mapping, MutableMapping
+from typing import Any, Union
 
 from . import _core
 from ._checks import checked_name, record
-from ._errors import Error
 from ._kept import Kept
 
 
@@ -46,7 +44,6 @@ class Context(Kept, _core.Context, MutableMapping[str, Any]):
 
     def __init__(self, values: Union[Mapping[str, Any], Iterable[tuple[str, Any]]] = ()) -> None:
         super().__init__()
-        self._notes: dict[int, list[set[str]]] = {}
         for name, value in record(values).items():
             self[name] = value
 
@@ -62,46 +59,14 @@ class Context(Kept, _core.Context, MutableMapping[str, Any]):
 
     def __setitem__(self, name: str, value: Any) -> None:
         self._items[checked_name(name)] = _Item(value)
-        self._note(name)
 
     def __delitem__(self, name: str) -> None:
         del self._items[name]
         if not self.closed:
             self._renew()  # engines can't take a name out of what they have
-        self._note(name)
 
     def __iter__(self) -> Iterator[str]:
         return iter(self._items)
 
     def __len__(self) -> int:
         return len(self._items)
-
-    def _note(self, name: str) -> None:
-        for names in self._notes.get(threading.get_ident(), ()):
-            names.add(name)
-
-    def _called(
-        self,
-        name: str,
-        function: Callable[..., Any],
-        arguments: Iterable[Any],
-        reads: Optional[Collection[str]],
-    ) -> tuple[Any, Optional[Error]]:
-        """Calls a function for a run that reads these names, or all. Returns what it returns, and
-        the error of the run if this thread has changed such a name meanwhile."""
-        thread, names = threading.get_ident(), set[str]()
-        notes = self._notes.setdefault(thread, [])
-        notes.append(names)
-        try:
-            value = function(*arguments)
-        finally:
-            notes.pop()
-            if not notes:
-                del self._notes[thread]
-        changed = sorted(names if reads is None else names.intersection(reads))
-        if not changed:
-            return value, None
-        why = f"the function {name} changed {', '.join(changed)}"
-        return value, Error(
-            "differs", f"{why}, which its own run reads: change a context between runs"
-        )

@@ -136,7 +136,7 @@ class Engine:
         if limits is None:
             self.ask(LIBRARY.set_unlimited)
         else:
-            numbers = _Limits(ctypes.sizeof(_Limits), *limits[:5])
+            numbers = _Limits(ctypes.sizeof(_Limits), *limits)
             self.ask(LIBRARY.set_limits, ctypes.byref(numbers))
         self._limits = limits
 
@@ -193,10 +193,10 @@ class Engine:
         self.ask(LIBRARY.used, ctypes.byref(steps), ctypes.byref(size))
         return steps.value, size.value
 
-    def asked(self) -> str:
-        """Returns the name of the function whose call waits, and looks at its arguments."""
+    def asked(self, waits: _Handle) -> str:
+        """Returns the name of the function at whose call a run waits, and looks at its arguments."""
         name = ctypes.c_char_p()
-        self.ask(LIBRARY.asked, ctypes.byref(name), self.to_answer)
+        self.ask(LIBRARY.asked, waits, ctypes.byref(name), self.to_answer)
         return (name.value or b"").decode()
 
 

@@ -40,12 +40,11 @@ class Environment(Kept, _core.Environment):
     ends with an Error of the same kind and message, and the function's is its `__cause__`. Any
     other exception, and a LimitError, reaches the caller as it is.
 
-    Each call of a program calls a function once. But the run begins again after each call. So what
-    comes before n calls is done n + 1 times; the limit `calls` bounds n.
+    A run stops at a call and goes on with what the function returns: nothing is done twice. The
+    limits of the program span the whole run.
 
-    A run keeps the environment that it began with. A function may change the environment for later
-    runs, and it may run programs. It may change a Context too, but no name that its own run reads:
-    that ends the run with an Error of kind "differs".
+    A run keeps the environment and the values that it began with. A function may change the
+    environment or a Context for later runs, and it may run programs.
 
     Environments can be copied, and pickled if their functions can.
 

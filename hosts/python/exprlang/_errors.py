@@ -19,7 +19,6 @@ class Error(Exception):
     - "syntax": a string that is no expression, see Syntax
     - "limit": a limit that a program would pass, see LimitError
     - "memory": out of memory
-    - "differs": a function changed the context that its own run reads, see Environment
     - "misuse": a name that is no word, and the like
     - "unknown": never, unless this module has a fault
 

@@ -43,8 +43,7 @@ _TO_WHOLE = ctypes.POINTER(_WHOLE)
 _LONG_CALLS: dict[str, list[Any]] = {
     "compile": [_TEXT, _SIZE, _TO_HANDLE, ctypes.POINTER(_Place)],
     "run": [_Handle, _Handle, _Handle, _TO_ANSWER],
-    "reply": [_TO_ANSWER],
-    "refuse": [_TEXT, _SIZE, _TO_ANSWER],
+    "reply": [_Handle, _TO_ANSWER],
 }
 _SHORT_CALLS: dict[str, list[Any]] = {
     "set_limits": [ctypes.POINTER(_Limits)],
@@ -79,7 +78,8 @@ _SHORT_CALLS: dict[str, list[Any]] = {
     "set_now": [_Handle, _WHOLE, ctypes.c_uint32],
     "add_name": [_Handle, _TEXT, _SIZE],
     "add_versions": [_Handle],
-    "asked": [_TO_TEXT, _TO_ANSWER],
+    "asked": [_Handle, _TO_TEXT, _TO_ANSWER],
+    "cancel": [_Handle],
     "drop_program": [_Handle],
     "drop_context": [_Handle],
     "drop_environment": [_Handle],
@@ -97,6 +97,7 @@ class Library:
                 setattr(self, name, self._bound(library, name, [_POINTER, *types], ctypes.c_int))
         self.open = self._bound(self._short, "open", [], _POINTER)
         self.close = self._bound(self._short, "close", [_POINTER], None)
+        self.waits = self._bound(self._short, "waits", [_POINTER], _Handle)
         self.message = self._bound(self._short, "message", [_POINTER], _TEXT)
         self.version = self._bound(self._short, "version", [], _TEXT)
 

@@ -35,9 +35,6 @@ class Limits:
     size: int = 1_000_000
     """What the values may weigh that a run holds at once. An item weighs 1, and so do 16 bytes of
     a string."""
-    calls: int = 100
-    """How many calls of your functions a run may make. A run begins again after each call, with
-    all its steps. So a run that makes n calls may take n + 1 times `steps`."""
 
     def __post_init__(self) -> None:
         for name, number in dataclasses.asdict(self).items():
@@ -99,7 +96,7 @@ def checked_limits(limits: AnyLimits) -> AnyLimits:
     return limits
 
 
-Numbers = Optional[tuple[int, int, int, int, int, int]]
+Numbers = Optional[tuple[int, int, int, int, int]]
 
 
 def numbers_of(limits: AnyLimits) -> Numbers:
@@ -108,4 +105,4 @@ def numbers_of(limits: AnyLimits) -> Numbers:
     if isinstance(limits, Unlimited):
         return None
     bounds = limits.nesting, limits.patterns, limits.steps, limits.depth, limits.size
-    return (*bounds, limits.calls)
+    return bounds

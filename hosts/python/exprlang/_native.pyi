@@ -3,7 +3,7 @@
 from collections.abc import Callable
 from typing import Any, Optional, TypeVar, Union
 
-_Numbers = Optional[tuple[int, int, int, int, int, int]]
+_Numbers = Optional[tuple[int, int, int, int, int]]
 _Text = TypeVar("_Text", str, bytes)
 
 def version() -> str: ...

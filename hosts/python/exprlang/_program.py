@@ -175,8 +175,7 @@ class Program(Kept, _core.Program):
     ) -> tuple[Any, Used]:
         """Runs the program as `run` does. Returns its value, and what it used of its limits.
 
-        A run that calls your functions begins again after each call. Then it is the last turn that
-        counts, which takes the most. What your functions run themselves isn't in it.
+        What your functions run themselves isn't in it.
 
         Errors: those of `run`. An Error of the run has what it used as `used`.
 

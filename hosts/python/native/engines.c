@@ -5,7 +5,7 @@
 /* As expr_status, from 0; those of limits are the names of limits. */
 /* begin: statuses, by hosts/border.py --write */
 static const char *const STATUS[] = {"ok", "syntax", "literal", "evaluation", "pattern", "memory", "unknown", "misuse", "asks",
-                                     "differs", "nesting", "patterns", "steps", "depth", "size"};
+                                     "nesting", "patterns", "steps", "depth", "size"};
 /* end: statuses */
 
 static const char *status_word(expr_status status) {

@@ -84,7 +84,7 @@ static stop scanned(run *r, scan *s, expr_status *status, expr_answer *answer) {
 static int settled(run *r, scan *s, stop at, expr_status status, expr_answer *answer) {
     r->from.number = s->number;
     if (at == AT_CALL) {
-        if (run_ended(r, NULL, status, answer) < 0) return -1;
+        if (run_ended(r, status, answer) < 0) return -1;
         at = line_ended(s, answer);
     }
     if (at == AT_ERROR) {

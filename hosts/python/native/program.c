@@ -261,15 +261,14 @@ METHOD(program_uses_env) {
     return done < 0 || status != EXPR_OK ? NULL : PyBool_FromLong(uses);
 }
 
-/* Reads limits: a tuple of six numbers, the last of which bounds calls, or None. */
+/* Reads limits: a tuple of five numbers, or None. */
 static int limits_read(program *it, PyObject *limits) {
-    long long nesting, patterns, steps, depth, size, calls;
+    long long nesting, patterns, steps, depth, size;
     it->within.limits = EXPR_LIMITS_UNTRUSTED;
     it->within.is_unlimited = limits == Py_None;
     if (it->within.is_unlimited) {
         nesting = patterns = steps = depth = size = INT64_MAX;
-        calls = -1;
-    } else if (!PyArg_ParseTuple(limits, "LLLLLL", &nesting, &patterns, &steps, &depth, &size, &calls)) {
+    } else if (!PyArg_ParseTuple(limits, "LLLLL", &nesting, &patterns, &steps, &depth, &size)) {
         return -1;
     }
     it->within.limits.nesting = nesting;
@@ -277,7 +276,6 @@ static int limits_read(program *it, PyObject *limits) {
     it->within.limits.steps = steps;
     it->within.limits.depth = depth;
     it->within.limits.size = size;
-    it->calls = calls;
     it->brief = it->within;
     it->brief.is_unlimited = 0;
     if (steps > BRIEF) it->brief.limits.steps = BRIEF;

@@ -16,7 +16,6 @@ typedef struct {
     bounds within; /* what a run may take */
     bounds brief;  /* the same, but for steps: what a run may take that keeps the GIL */
     int is_long;   /* a run has taken more than that */
-    int64_t calls; /* how many calls of functions a run may make; -1 lifts the limit */
     int is_nil;    /* names that a record lacks are nil */
     environment_object *environment; /* of runs that have no other; may be null */
     PyObject *words;                 /* a tuple of the names that it asks for; null until a run needs them */
@@ -33,6 +32,7 @@ typedef struct {
     expr_program compiled;
     expr_environment environment;
     PyObject *functions; /* of the environment, or null */
+    int may_ask;         /* there are such functions */
     int is_nil;
     origin from;
     expr_context context; /* of the record, if there is one that isn't kept */
@@ -86,7 +86,7 @@ PyObject *run_over(run *r, PyObject *given, int is_rule);
 /* Adds to a list how many steps and how much size the last run used, if there was one. An exception that is raised stays. */
 int used_added(run *r, PyObject *list);
 /* Goes on with a run until it ends, and calls the functions that it asks for. */
-int run_ended(run *r, context_object *owner, expr_status status, expr_answer *answer);
+int run_ended(run *r, expr_status status, expr_answer *answer);
 /* Checks that the value of a rule is a boolean. */
 int checked_bool(run *r, const expr_answer *answer);
 

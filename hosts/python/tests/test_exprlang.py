@@ -113,6 +113,17 @@ class Calls(unittest.TestCase):
         self.assertEqual(exprlang.evaluate("1 + " * 999 + "1"), 1000)
         self.assertIs(exprlang.evaluate("all([1], {" * 2400 + "true" + "})" * 2400), True)
 
+    def test_limit_on_copies(self):
+        environment = exprlang.Environment(functions={"same": lambda value: value})
+        context = {"xs": [{"a": number} for number in range(100)]}
+        few = exprlang.Limits(size=2000)
+        self.assertEqual(exprlang.evaluate("len([xs, same(1)])", context, environment, few), 2)
+        for text in ["len([xs, xs, same(1)])", "all(xs, {all(xs, {same(true)})})"]:
+            with self.assertRaises(exprlang.Error) as caught:
+                exprlang.evaluate(text, context, environment, few)
+            self.assertEqual(caught.exception.kind, "memory")
+            self.assertTrue(exprlang.evaluate(text, context, environment, exprlang.UNLIMITED))
+
     def test_limits(self):
         few = exprlang.Limits(steps=1000)
         limited, usual = exprlang.compile("all(1..1000, {# > x})", few), exprlang.compile(
@@ -211,14 +222,13 @@ class Calls(unittest.TestCase):
             return used
 
         self.assertEqual(after_all("slow() == 1"), after_all("fast() == 1"))
-        # the last turn counts, and the turns before it don't
+        # all turns count, and nothing is done twice
         once = after_all("double(1) == 2").steps
         thrice = after_all("double(double(double(1))) == 8").steps
         self.assertTrue(100 < once < thrice < 2 * once, (once, thrice))
         text = "all(1..100, {# > 0}) and fails()"
-        for kind, calls in [("evaluation", 1), ("calls", 0)]:
-            used = self.used(kind, text, environment=host, calls=calls)
-            self.assertGreater(used.steps, 100)
+        used = self.used("evaluation", text, environment=host)
+        self.assertGreater(used.steps, 100)
 
     def test_limits_of_calls(self):
         inner = exprlang.compile("all(1..n, {# > 0})", exprlang.Limits(steps=1000))
@@ -229,15 +239,16 @@ class Calls(unittest.TestCase):
             }
         )
         host.add_function("compiles", lambda: len(exprlang.compile("1", exprlang.UNLIMITED).text))
-        self.assertEqual(exprlang.evaluate("len(map(1..100, double(#)))", environment=host), 100)
-        self.stops("calls", "len(map(1..101, double(#)))", environment=host)
-        self.assertEqual(
-            exprlang.evaluate(
-                "len(map(1..101, double(#)))", environment=host, limits=exprlang.UNLIMITED
-            ),
-            101,
-        )
-        self.stops("calls", "double(1)", environment=host, limits=exprlang.Limits(calls=0))
+        text = "len(map(1..3000, double(#)))"
+        for limits in [exprlang.Limits(), exprlang.UNLIMITED]:
+            value = exprlang.evaluate(text, environment=host, limits=limits)
+            self.assertEqual(value, 3000)
+        # the limits span all turns, and a reply counts
+        self.stops("steps", text, environment=host, limits=exprlang.Limits(steps=12_000))
+        host.add_function("long", lambda n: "x" * n)
+        few = exprlang.Limits(size=1000)
+        self.assertEqual(exprlang.evaluate("len(long(99))", environment=host, limits=few), 99)
+        self.stops("size", "len(long(99999))", environment=host, limits=few)
         self.assertIs(exprlang.evaluate("slow(10)", environment=host), True)
         self.stops("steps", "slow(10) and slow(10000)", environment=host)
         self.stops("steps", "compiles() + len(1..2000000)", environment=host)
@@ -337,17 +348,17 @@ class Calls(unittest.TestCase):
         self.assertEqual(exprlang.evaluate("map(1..4, inner(#))", environment=host), [3, 5, 7, 9])
         self.assertEqual(exprlang.evaluate("inner(inner(1)) + inner(2)", environment=host), 12)
 
-    def test_a_call_that_differs(self):
+    def test_a_function_that_returns_something_else_each_time(self):
         context = exprlang.Context({"x": 1})
 
         def changes(number):
             context["x"] = number + 1
-            return number
+            return context["x"]
 
         host = exprlang.Environment(functions={"f": changes})
-        with self.assertRaises(exprlang.Error) as caught:
-            exprlang.evaluate("f(x) + f(7)", context, host)
-        self.assertEqual(caught.exception.kind, "differs")
+        # the run keeps what it began with
+        self.assertEqual(exprlang.evaluate("[f(x), f(7), f(x), x]", context, host), [2, 8, 2, 1])
+        self.assertEqual(exprlang.evaluate("x", context), 2)
 
 
 class Records(unittest.TestCase):

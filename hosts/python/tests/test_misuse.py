@@ -451,10 +451,9 @@ class Functions(Case):
 
         host = exprlang.Environment(functions={"f": changes})
         self.assertEqual(exprlang.evaluate("[x, f('y'), x]", order, host), [1, 1, 1])
-        error = self.error("[x, f('x'), x]", order, host)
-        self.assertEqual(error.kind, "differs")
-        self.assertRegex(str(error), "the function f changed x")
-        self.assertEqual(self.error("[f('z'), len($env)]", order, host).kind, "differs")
+        self.assertEqual(exprlang.evaluate("[x, f('x'), x]", order, host), [1, 1, 1])
+        self.assertEqual(exprlang.evaluate("[x, f('z'), len($env)]", order, host), [9, 1, 2])
+        self.assertEqual(len(order), 3)
         record = {"x": 1}
         host.add_function("g", lambda: record.update(x=9))
         self.assertEqual(exprlang.evaluate("[x, g(), x]", record, host), [1, None, 1])

@@ -4,7 +4,7 @@ use crate::limits::{Limit, Limits, Used};
 use crate::map::Map;
 use crate::moment::DateTimeValue;
 use crate::pool::Token;
-use crate::raw::{kind, limit, Ask, Asked, Handle, Raw, Told, ASKS, DIFFERS, LIMITS, MISUSE};
+use crate::raw::{kind, limit, Ask, Asked, Handle, Raw, Told, NONE, ASKS, LIMITS, MISUSE};
 use crate::raw::{EVALUATION, LITERAL, MEMORY, PATTERN, SYNTAX};
 use crate::value::Value;
 use std::collections::HashMap;
@@ -18,6 +18,8 @@ pub struct Engine {
     copies: HashMap<u64, Copy, BuildHasherDefault<OfNumber>>,
     /// The context of one run, which is dropped behind it.
     temporary: Option<Handle>,
+    /// The run that waits for a reply.
+    waits: Option<Handle>,
     /// The numbers of the limits that it has, or None where it has none.
     limits: Option<Numbers>,
 }
@@ -59,7 +61,7 @@ pub struct Filled {
 impl Engine {
     pub fn open(number: u64) -> Engine {
         let limits = Some(numbers(&Limits::untrusted()));
-        Engine { raw: Raw::open(), number, copies: HashMap::default(), temporary: None, limits }
+        Engine { raw: Raw::open(), number, copies: HashMap::default(), temporary: None, waits: None, limits }
     }
 
     pub fn number(&self) -> u64 {
@@ -78,6 +80,9 @@ impl Engine {
 
     /// Drops what a call has left that isn't kept.
     pub fn settle(&mut self) {
+        if let Some(run) = self.waits.take() {
+            self.raw.call(Ask::Cancel, Asked { run, ..Asked::default() });
+        }
         if let Some(context) = self.temporary.take() {
             self.drop_kept(Ask::DropContext, context);
         }
@@ -189,6 +194,7 @@ impl Engine {
     /// Begins a run, or goes on with the one that waits. Returns the answer, or None if it waits for a reply.
     pub fn turn(&mut self, ask: Ask, asked: Asked<'_>) -> Result<Option<Told>> {
         let told = self.raw.call(ask, asked);
+        self.waits = (told.status == ASKS).then_some(told.run);
         match told.status {
             0 => Ok(Some(told)),
             ASKS => Ok(None),
@@ -196,9 +202,13 @@ impl Engine {
         }
     }
 
+    fn waiting(&self) -> Asked<'static> {
+        Asked { run: self.waits.unwrap_or(NONE), ..Asked::default() }
+    }
+
     /// The name of the function that is called, and the arguments.
     pub fn asked(&mut self) -> Result<(String, Vec<Value>)> {
-        let told = self.ask(Ask::WaitingCall, Asked::default())?;
+        let told = self.ask(Ask::WaitingCall, self.waiting())?;
         let name = self.text(&told, Ask::Said);
         match self.value(&told)? {
             Value::Array(arguments) => Ok((name, arguments)),
@@ -207,14 +217,9 @@ impl Engine {
     }
 
     /// Goes on with the run that waits, whose call returns this.
-    pub fn reply(&mut self, reply: &Result<Value>) -> Result<Option<Told>> {
-        match reply {
-            Ok(value) => {
-                self.push(value)?;
-                self.turn(Ask::Answer, Asked::default())
-            }
-            Err(error) => self.turn(Ask::Refuse, Asked { text: error.to_string().as_bytes(), ..Asked::default() }),
-        }
+    pub fn reply(&mut self, value: &Value) -> Result<Option<Told>> {
+        self.push(value)?;
+        self.turn(Ask::Answer, self.waiting())
     }
 
     fn error(&mut self, status: u32, told: &Told) -> Error {
@@ -226,7 +231,6 @@ impl Engine {
             PATTERN => Error::RegexError(message),
             MEMORY => Error::MemoryError,
             MISUSE => Error::MisuseError(message),
-            DIFFERS => Error::ExprError("a run came to another call than the one that was replied to".into()),
             status => match limit_of(status) {
                 Some(limit) => Error::LimitError(limit),
                 None => Error::MisuseError("the engine has no such value".into()),

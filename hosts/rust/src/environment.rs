@@ -2,7 +2,7 @@
 use crate::context::Context;
 use crate::engine::Engine;
 use crate::error::{Error, Result};
-use crate::limits::{Limit, Limits, Used};
+use crate::limits::{Limits, Used};
 use crate::moment::DateTimeValue;
 use crate::pool::{with_engine, Token};
 use crate::program::{compile, compile_limited, compile_unlimited, Program};
@@ -24,8 +24,8 @@ pub fn run(program: &Program, ctx: &Context) -> Result<Value> {
 
 /// Runs a program as [`run`] does, and says what the run used of its limits, whatever it ended with.
 ///
-/// A run that calls your functions begins again after each call. Then it is the last turn that counts, which takes the most. If
-/// there was no run, as for a value that can't be handed in, nothing was used.
+/// What your functions run themselves isn't in it. If there was no run, as for a value that can't be handed in, nothing was
+/// used.
 ///
 /// ```
 /// use exprlang::{compile, run_used, Context};
@@ -82,7 +82,7 @@ pub fn eval_unlimited(code: &str, ctx: &Context) -> Result<Value> {
 fn answer(program: &Program, ctx: &Context, environment: Option<&Environment>) -> Result<Value> {
     with_engine(|engine| {
         let asked = prepared(engine, program, ctx, environment)?;
-        turns(engine, program, environment, asked)
+        turns(engine, environment, asked)
     })
 }
 
@@ -91,7 +91,7 @@ fn answer_used(program: &Program, ctx: &Context, environment: Option<&Environmen
     let mut used = Used::default();
     let answer = with_engine(|engine| {
         let asked = prepared(engine, program, ctx, environment)?;
-        let answer = turns(engine, program, environment, asked);
+        let answer = turns(engine, environment, asked);
         used = engine.used();
         answer
     });
@@ -119,35 +119,25 @@ fn prepared(
 /// function runs has another one.
 fn turns(
     engine: &mut Engine,
-    program: &Program,
     environment: Option<&Environment>,
     asked: Asked<'_>,
 ) -> Result<Value> {
     let mut turn = engine.turn(Ask::Run, asked)?;
-    let mut calls = 0;
     loop {
         if let Some(told) = turn {
             return engine.value(&told);
         }
-        if program.limits().is_some_and(|limits| calls >= limits.calls) {
-            return Err(Error::LimitError(Limit::Calls));
-        }
-        calls += 1;
         let (ident, args) = engine.asked()?;
-        let reply = called(environment, ExprCall { ident, args })?;
-        turn = engine.reply(&reply)?;
+        let value = called(environment, ExprCall { ident, args })?;
+        turn = engine.reply(&value)?;
     }
 }
 
-/// What a function of the host returns, or the limit that ends the run.
-fn called(environment: Option<&Environment>, call: ExprCall) -> Result<Result<Value>> {
-    let reply = match environment.and_then(|environment| environment.functions.get(&call.ident)) {
+/// What a function of the host returns. Its error ends the run.
+fn called(environment: Option<&Environment>, call: ExprCall) -> Result<Value> {
+    match environment.and_then(|environment| environment.functions.get(&call.ident)) {
         Some(function) => function(call),
         None => Err(Error::ExprError(call.ident)),
-    };
-    match reply {
-        Err(Error::LimitError(limit)) => Err(Error::LimitError(limit)),
-        reply => Ok(reply),
     }
 }
 
@@ -217,12 +207,10 @@ impl Environment {
     /// Adds a function, in place of an earlier one of this name or of one of the language. Its name is a word of the
     /// language, else each run in the environment is an [`Error::MisuseError`].
     ///
-    /// A run stops at a call of it and begins again with the reply. So a program that makes n calls runs n + 1 times. Each
-    /// call is made once. The function may run programs itself. How many calls a run may make is a limit of the program
-    /// ([`Limits::calls`]).
+    /// A run stops at a call of it and goes on with the reply: nothing is done twice. The limits of the program span the whole
+    /// run, and what the function runs itself has limits of its own.
     ///
-    /// An error of the function ends the run, as [`Error::ExprError`] with the same message. An [`Error::LimitError`], as of
-    /// a program that the function runs, ends it as it is.
+    /// An error of the function ends the run, as it is.
     ///
     /// ```
     /// use exprlang::{Context, Environment, Error, Value};

@@ -26,17 +26,14 @@ pub struct Limits {
     pub depth: usize,
     /// What the values that a run holds at once may weigh. An item is 1, and so are 16 bytes of a string.
     pub size: u64,
-    /// How many calls of your functions a run may make. A run begins again after each, with all its steps. So one that makes
-    /// n calls may take n + 1 times `steps`. What your functions run themselves comes on top, within limits of its own.
-    pub calls: usize,
 }
 
 impl Limits {
-    /// Limits for an untrusted string: a nesting of 5,000, patterns of 100,000, 1,000,000 steps, a depth of 1,000, a size of
-    /// 1,000,000, and 100 calls of your functions.
+    /// Limits for an untrusted string: a nesting of 5,000, patterns of 100,000, 1,000,000 steps, a depth of 1,000, and a size
+    /// of 1,000,000.
     #[must_use]
     pub const fn untrusted() -> Limits {
-        Limits { nesting: 5_000, patterns: 100_000, steps: 1_000_000, depth: 1_000, size: 1_000_000, calls: 100 }
+        Limits { nesting: 5_000, patterns: 100_000, steps: 1_000_000, depth: 1_000, size: 1_000_000 }
     }
 
     /// These limits with another nesting.
@@ -71,13 +68,6 @@ impl Limits {
     #[must_use]
     pub const fn with_size(mut self, size: u64) -> Limits {
         self.size = size;
-        self
-    }
-
-    /// These limits with another number of calls.
-    #[must_use]
-    pub const fn with_calls(mut self, calls: usize) -> Limits {
-        self.calls = calls;
         self
     }
 }
@@ -116,8 +106,6 @@ pub enum Limit {
     Depth,
     /// A run holds more at once.
     Size,
-    /// A run makes more calls of your functions.
-    Calls,
 }
 
 impl fmt::Display for Limit {
@@ -128,7 +116,6 @@ impl fmt::Display for Limit {
             Limit::Steps => "the run takes more steps than the limit of steps",
             Limit::Depth => "the run makes a value that is deeper than the limit of depth",
             Limit::Size => "the values of the run weigh more than the limit of size",
-            Limit::Calls => "the run calls your functions more often than the limit of calls",
         })
     }
 }

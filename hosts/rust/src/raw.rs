@@ -57,6 +57,7 @@ struct Call<'a> {
     program: Handle,
     context: Handle,
     environment: Handle,
+    run: Handle,
     number: i64,
     place: usize,
     line: usize,
@@ -85,15 +86,16 @@ lies_at! {
         program: 16,
         context: 32,
         environment: 48,
-        number: 64,
-        place: 72,
-        line: 80,
-        column: 88,
-        length: 96,
-        name: 104,
-        text: 120,
-        room: 136,
-    } 152,
+        run: 64,
+        number: 80,
+        place: 88,
+        line: 96,
+        column: 104,
+        length: 112,
+        name: 120,
+        text: 136,
+        room: 152,
+    } 168,
 }
 
 /// What may be asked, as `Ask` of call.rt.
@@ -140,6 +142,7 @@ pub enum Ask {
     Versions,
     ProgramText,
     Used,
+    Cancel,
     // end: asks
 }
 
@@ -154,10 +157,8 @@ pub const MEMORY: u32 = 5;
 pub const MISUSE: u32 = 7;
 /// The status of a run that waits for the host's reply.
 pub const ASKS: u32 = 8;
-/// The status of a run that came to another call than the one that was replied to.
-pub const DIFFERS: u32 = 9;
 /// The first of the statuses of limits, one for each in the order of [`Limits`](crate::Limits).
-pub const LIMITS: u32 = 10;
+pub const LIMITS: u32 = 9;
 // end: statuses
 
 /// Kinds of values, as `Kind` of kind.rt.
@@ -209,6 +210,8 @@ pub struct Asked<'a> {
     pub program: Handle,
     pub context: Handle,
     pub environment: Handle,
+    /// A run that waits.
+    pub run: Handle,
     pub kind: u32,
     pub fraction: u32,
     pub number: i64,
@@ -222,6 +225,7 @@ impl Default for Asked<'_> {
             program: NONE,
             context: NONE,
             environment: NONE,
+            run: NONE,
             kind: 0,
             fraction: 0,
             number: 0,
@@ -240,6 +244,7 @@ pub struct Told {
     pub program: Handle,
     pub context: Handle,
     pub environment: Handle,
+    pub run: Handle,
     pub number: i64,
     pub place: usize,
     pub line: usize,
@@ -304,6 +309,7 @@ impl Raw {
             program: asked.program,
             context: asked.context,
             environment: asked.environment,
+            run: asked.run,
             number: asked.number,
             place: 0,
             line: 0,
@@ -323,6 +329,7 @@ impl Raw {
             program: call.program,
             context: call.context,
             environment: call.environment,
+            run: call.run,
             number: call.number,
             place: call.place,
             line: call.line,

@@ -74,7 +74,7 @@ fn limits_are_the_programs_own() {
 fn programs_stop_exactly_at_a_limit() {
     let ctx = Context::default();
     let within = |limits: Limits, code: &str| eval_limited(code, &ctx, &limits).map(|_| ());
-    let most = Limits::default().with_nesting(usize::MAX).with_depth(usize::MAX).with_calls(0);
+    let most = Limits::default().with_nesting(usize::MAX).with_depth(usize::MAX);
     let wide = most.with_patterns(u64::MAX).with_steps(u64::MAX).with_size(u64::MAX);
     assert_eq!(within(wide.with_nesting(3), "((1))"), Ok(()));
     assert_eq!(within(wide.with_nesting(2), "((1))"), stops(Limit::Nesting));
@@ -110,20 +110,21 @@ fn doubled(call: ExprCall) -> exprlang::Result<Value> {
 }
 
 #[test]
-fn calls_of_the_host_are_counted() {
+fn limits_span_a_run_with_calls_of_the_host() {
     let mut env = Environment::new();
     env.add_function("double", doubled);
+    env.add_function("long", |_| Ok(Value::String("x".repeat(99_999))));
     let ctx = Context::default();
-    assert_eq!(env.eval("len(map(1..100, double(#)))", &ctx), Ok(Value::Integer(100)));
-    assert_eq!(env.eval("len(map(1..101, double(#)))", &ctx), stops(Limit::Calls));
-    assert_eq!(env.eval_unlimited("len(map(1..101, double(#)))", &ctx), Ok(Value::Integer(101)));
-    let none = Limits::default().with_calls(0);
-    assert_eq!(env.eval_limited("double(1)", &ctx, &none), stops(Limit::Calls));
-    assert_eq!(env.eval_limited("1 + 1", &ctx, &none), Ok(Value::Integer(2)));
-    // Each turn has the steps anew, so that all of them may take more than one has.
+    assert_eq!(env.eval("len(map(1..3000, double(#)))", &ctx), Ok(Value::Integer(3000)));
+    assert_eq!(env.eval_unlimited("len(map(1..3000, double(#)))", &ctx), Ok(Value::Integer(3000)));
+    // All turns take of the same steps.
     let few = Limits::default().with_steps(400);
     assert_eq!(env.eval_limited("map(1..5, double(#)) == [2, 4, 6, 8, 10]", &ctx, &few), Ok(Value::Bool(true)));
+    assert_eq!(env.eval_limited("len(map(1..100, double(#)))", &ctx, &few), stops(Limit::Steps));
     assert_eq!(env.eval_limited("double(1) > 0 and all(1..1000, {# > 0})", &ctx, &few), stops(Limit::Steps));
+    assert_eq!(env.eval_limited("all(1..300, {# > 0}) and double(1) > 0", &ctx, &few), stops(Limit::Steps));
+    // A reply counts as a value that was made.
+    assert_eq!(env.eval_limited("len(long())", &ctx, &Limits::default().with_size(1_000)), stops(Limit::Size));
     assert_eq!(env.eval("double(2)", &ctx), Ok(Value::Integer(4)));
 }
 
@@ -137,7 +138,7 @@ fn functions_run_programs_within_limits_of_their_own() {
     assert_eq!(env.eval("slow(10) and slow(20)", &ctx), Ok(Value::Bool(true)));
     // The limit of the program inside ends the run, and isn't taken for a refusal of the language.
     assert_eq!(env.eval("slow(10) and slow(10000)", &ctx), stops(Limit::Steps));
-    // The run that waits has its own limits again, whatever was compiled or run meanwhile.
+    // The run that waits keeps its own limits, whatever was compiled or run meanwhile.
     assert_eq!(env.eval("compiles() + len(1..2000000)", &ctx), stops(Limit::Steps));
     assert_eq!(env.eval("slow(10) and len(1..900000) > 0", &ctx), Ok(value!(true)));
     assert_eq!(env.eval("slow(10) and len(1..2000000) > 0", &ctx), stops(Limit::Steps));
@@ -199,13 +200,12 @@ fn a_run_says_nothing_of_what_its_functions_used() {
         used
     };
     assert_eq!(used_by("all(1..n, {# > 0}) and slow() == 1"), used_by("all(1..n, {# > 0}) and fast() == 1"));
-    // The last turn counts, and the turns before it don't.
+    // All turns count, and nothing is done twice.
     let once = used_by("all(1..n, {# > 0}) and double(1) == 2");
     let thrice = used_by("all(1..n, {# > 0}) and double(double(double(1))) == 8");
     assert!(once.steps > 100 && thrice.steps > once.steps && thrice.steps < 2 * once.steps, "{once:?} {thrice:?}");
-    let (answer, used) = env.run_used(&compile_limited("double(n) > 0", &Limits::default().with_calls(0)).unwrap(), &ctx);
-    assert_eq!(answer, stops(Limit::Calls));
-    assert!(used.steps > 0);
+    let (answer, used) = env.run_used(&compile("double(1) > 0 and double('x') > 0").unwrap(), &ctx);
+    assert!(matches!(answer, Err(Error::ExprError(_))) && used.steps > 0);
 }
 
 #[test]

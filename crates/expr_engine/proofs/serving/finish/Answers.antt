@@ -11,7 +11,7 @@ pub returns-in-Err-clause-ended : goal.returns-in-Err-clause-ended
 returns-in-Err-clause-ended c =
     let f = c.refuse-status.ensures in
     subst (λ (done : Result (Unit {0}) HostError). EndsCall done c.answer-in-Err.new.call.status) (sym c.in-Err.is)
-    (ends_call c.in-Err.refused c.refuse-status.result c.answer-in-Err.new.call.status f.status f.unknown f.misuse f.asks f.differs c.answer-in-Err.ensures.status)
+    (ends_call c.in-Err.refused c.refuse-status.result c.answer-in-Err.new.call.status f.status f.unknown f.misuse (λ run is. (f.asks run is).0) c.answer-in-Err.ensures.status)
 
 pub returns-in-Err-clause-placed : goal.returns-in-Err-clause-placed
 returns-in-Err-clause-placed c =

@@ -1,13 +1,13 @@
-use Rattle.std.proofs.Common.{◌≡◌, ℕ, List, [], Some, MatchOption, ap, refl, string_bytes, subst, sym}
+use Rattle.std.proofs.Common.{◌≡◌, ℕ, List, Some, MatchOption, ap, refl, string_bytes, subst, sym}
 use Rattle.expr_exchange.specs.Asks.{ask_of, shows_of}
 use Rattle.expr_engine.specs.Effects.{Does, HandleFindsNothing, call_result}
-use Rattle.expr_engine.specs.Engines.{run_inputs}
+use Rattle.expr_engine.specs.Engines.{rest_of_engine, run_inputs}
 use Rattle.expr_engine.specs.Faults.{text_place}
 use Rattle.expr_engine.specs.Limiting.{LimitsBy}
 use Rattle.expr_engine.specs.Promised.{Gives}
 use Rattle.expr_engine.specs.Reasons.{EndsWithReason}
 use Rattle.expr_engine.specs.Served.{AnswersNumber, ShowsText, text_shown}
-use Rattle.expr_engine.specs.Turns.{TurnsBy}
+use Rattle.expr_engine.specs.Turns.{SameRuns, TurnsBy}
 use Rattle.expr_exchange.specs.declared.call.Ask.{Ask}
 use Rattle.expr_exchange.specs.declared.call.Ask.TheVariants as is
 use Rattle.expr_exchange.specs.Cursor.{part_of}
@@ -15,7 +15,7 @@ use Rattle.expr_exchange.specs.declared.misuse.Misuse.TheVariants as wrong
 use Rattle.expr_engine.proofs.Acting.{served_nothing}
 use Rattle.expr_engine.proofs.Ended.{asked_for, does_by, done_by, limits_by, refused_by, served_by, turns_on}
 use Rattle.expr_engine.proofs.Faulty.{placed_in}
-use Rattle.expr_engine.proofs.Unchanged.{answer_in, leaves_after, limits_in, rise_after, waits_in}
+use Rattle.expr_engine.proofs.Unchanged.{answer_in, leaves_after, limits_in, rise_after}
 use Rattle.expr_engine.proofs.serving.serve.Goals as goal
 
 pub returns-in-Some : goal.returns-in-Some
@@ -42,12 +42,12 @@ returns-in-Some c =
       run = λ is_run.
           let same_ask : ask ≡ is.Run = cc (is_run, same) in
           let found = run_inputs old call.program call.environment call.context in
-          subst (λ a. MatchOption found (answered.status ≡ 6) (λ q. AnswersNumber q [] answered.status (part_of a))) (sym (ap answer_in ends.rest))
-          (served_by found [] result (part_of mid.answer) answered.status
+          subst (λ a. MatchOption found (answered.status ≡ 6) (λ q. AnswersNumber q answered.status (part_of a))) (sym (ap answer_in ends.rest))
+          (served_by found result (part_of mid.answer) answered.status
           (subst (λ (x : Ask). Gives x old call c.act-done.new.call result (part_of mid.answer)) same_ask acts.gives) ends.unknown ends.ended);
       turns =
-          asked_for (new.waits ≡ old.waits) (ask_of call.ask) ask (λ ask. TurnsBy ask old call answered.status new.waits (part_of new.answer)) same
-          (record { done = result; ends = ends.ended; turns = turns_on ask old call result mid new acts.turns (ap waits_in ends.rest) (ap answer_in ends.rest) });
+          asked_for (SameRuns old (rest_of_engine new)) (ask_of call.ask) ask (λ ask. TurnsBy ask old call answered (rest_of_engine new) (part_of new.answer)) same
+          (record { done = result; ends = ends.ended; waits = ends.waits; turns = turns_on ask old call result mid new acts.turns ends.rest });
       limits =
           asked_for (new.limits ≡ old.limits) (ask_of call.ask) ask (λ ask. LimitsBy ask old.limits call (answered.status ≡ 0) (answered.status ≡ 7) new.limits) same
           (limits_by ask old.limits call result answered.status mid.limits new.limits ends.ended acts.limits (ap limits_in ends.rest));
@@ -60,7 +60,7 @@ returns-in-Some c =
           asked_for (answered.status ≡ 7) (ask_of call.ask) ask (λ ask. HandleFindsNothing ask old call → answered.status ≡ 6) same
           (λ m. ends.unknown (acts.unknown m));
       known = λ e. asked_for ⊥ (ask_of call.ask) ask (λ ask. HandleFindsNothing ask old call) same (acts.known (ends.known e));
-      numbers = rise_after old mid new acts.numbers ends.kept;
+      numbers = rise_after old mid new acts.numbers ends.kept ends.rest;
       shown = λ z.
           asked_for ⊥ (ask_of call.ask) ask (λ ask. ShowsText (text_shown (shows_of ask) new) call.room.now answered) same
           (subst (λ s. ShowsText (text_shown s new) call.room.now answered) c.shows.ensures

@@ -2,7 +2,7 @@ use Rattle.std.proofs.Common.{Result, Ok, Err, IfErr}
 use Rattle.expr_exchange.specs.Builder.{HasLast, values_of}
 use Rattle.expr_exchange.specs.Refusals.{IsForMemory, NotMeant}
 use Rattle.expr_exchange.specs.declared.host_error.HostError.{HostError}
-use Rattle.expr_exchange.specs.declared.host_error.HostError.TheVariants.{Language, Unknown, Misuse, Asks, Differs, Stopped}
+use Rattle.expr_exchange.specs.declared.host_error.HostError.TheVariants.{Language, Unknown, Misuse, Asks, Stopped}
 use Rattle.expr_exchange.proofs.builder.ValueBuilder.array.Goals as goal
 
 -- what fails only for lack of memory may have a meaning
@@ -11,8 +11,7 @@ for_memory Means (Ok v) m = tt
 for_memory Means (Err (Language error)) m = m
 for_memory Means (Err Unknown) m = absurd m
 for_memory Means (Err (Misuse why)) m = absurd m
-for_memory Means (Err Asks) m = absurd m
-for_memory Means (Err Differs) m = absurd m
+for_memory Means (Err (Asks run)) m = absurd m
 for_memory Means (Err (Stopped limit)) m = absurd m
 
 pub returns-clause-refused : goal.returns-clause-refused

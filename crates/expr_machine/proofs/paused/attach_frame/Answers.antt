@@ -1,0 +1,4 @@
+use Rattle.expr_machine.proofs.paused.attach_frame.Goals as goal
+
+pub attach-requires : goal.attach-requires
+attach-requires c = (c.requires.0.stack, c.requires.1.stack)
