@@ -5,7 +5,8 @@ ghost use Rattle.expr_error.specs.ErrorKind.{OnlyMemory};
 ghost use Rattle.expr_frames.specs.Runs.{State, Waiting};
 ghost use Rattle.expr_machine.specs.Pausing.{ComesAsHeld, HoldsFrame, HoldsRun, IsRunHeld, Pauses};
 ghost use Rattle.expr_machine.specs.Seen.{state_of, waiting_of};
-ghost use Rattle.expr_stack.specs.Detached.{IsLonger, Pairs};
+ghost use Rattle.expr_predicates.specs.Shared.{IsLonger};
+ghost use Rattle.expr_stack.specs.Detached.{Pairs};
 
 use crate::frame::Frame;
 use crate::machine::{Machine, MachineParts};
@@ -17,15 +18,15 @@ use expr_frames::RunMeter;
 use expr_lowering::{Code, Pointer};
 use expr_meaning::Functions;
 use expr_pattern::{Matchers, Pattern};
-use expr_predicates::PredicateRun;
-use expr_stack::{DetachedMemory, DetachedStack, SharedValue};
+use expr_predicates::{DetachedRun, SharedValue};
+use expr_stack::{DetachedMemory, DetachedStack};
 use expr_value::{Result, Value};
 use std::alloc::Global;
 
 /// A caller that waits for the result of a block, in a run that waits.
 #[derive(Drop)]
 struct DetachedFrame {
-    run: PredicateRun<'static>,
+    run: DetachedRun,
     stack: DetachedStack,
     number: usize,
     at: usize,
@@ -43,7 +44,7 @@ struct DetachedFrame {
 #[derive(Drop)]
 pub struct Paused {
     pub lists: PausedLists,
-    /// Copies of what was lent, from which the lists lend when the run goes on.
+    /// Copies of what was borrowed. The lists borrow them when the run goes on.
     pub shared: Vec<SharedValue>,
 }
 
@@ -130,8 +131,9 @@ where
         shared: &'s [SharedValue],
     ) -> Result<Machine<'a, 'c, 's, 'm, H, P, L, N, K, Global, M>>
         requires { IsRunHeld shared.now lists }
-        ensures state { IfOk result (λ machine. HoldsRun shared.now lists
-            (state_of H.host P.context L.held (text_of N.held) M.metered machine)) }
+        // Its state is the one that waited.
+        ensures state { (s : State) → HoldsRun shared.now lists s → IfOk result
+            (λ machine. state_of H.host P.context L.held (text_of N.held) M.metered machine ≡ s) }
         // What it comes to, given a reply, is what the run would have come to that waited.
         ensures comes { (s : State) → HoldsRun shared.now lists s → IfOk result
             (λ machine. ComesAsHeld H.host P.context L.held (text_of N.held) M.metered s machine) }
@@ -210,7 +212,7 @@ fn detach_frame(
         first,
         mark,
     } = frame;
-    let run = run.into_owned(alloc, size)?;
+    let run = run.detach(alloc, size, shared)?;
     let stack = stack.detach(alloc, size, shared)?;
     Ok(DetachedFrame {
         run,
@@ -272,6 +274,7 @@ fn attach_frame<'s>(
         first,
         mark,
     } = frame;
+    let run = run.attach(shared);
     let stack = stack.attach(alloc, shared)?;
     Ok(Frame {
         run,

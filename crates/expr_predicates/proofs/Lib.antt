@@ -1,4 +1,5 @@
 pub mod Accumulating
+pub mod Alike
 pub mod Answered
 pub mod FoldStarts
 pub mod Grouped
@@ -10,3 +11,4 @@ pub mod Opposite
 pub mod Own
 pub mod Stopped
 pub mod Turns
+pub mod Weighing

@@ -8,7 +8,6 @@ use Rattle.expr_value.specs.declared.value.Value.{Value}
 use Rattle.expr_predicates.specs.Accumulators.{Awaits, Represents, RepresentsRest, RunRepresents, ScalarRepresents}
 use Rattle.expr_predicates.specs.Folds.{Fold, ItemAnswer, all_hold, any_holds, counting, fails, finding_place, first_place, has_stopped, holds, none_holds}
 use Rattle.expr_predicates.specs.Noting.{Adds, Gathers, IsOut, Notes, NotesBy, ScalarNotes, Takes, ValuesNote}
-use Rattle.expr_predicates.specs.Remaining.{items_remaining}
 use Rattle.expr_predicates.specs.declared.run.Accumulator.TheVariants as accumulator
 use Rattle.expr_predicates.specs.declared.run.Noted.{Noted}
 use Rattle.expr_predicates.specs.declared.run.Noted.TheVariants as noted
@@ -26,7 +25,7 @@ same_run r s left asked gathered = λ i. record {
   left = left i;
   asked = asked i;
   gathered = gathered i;
-  fits = is_prop→PathP (λ j. asked j + length (items_remaining (left j)) < 2 ^ 64) (λ j. le_prop) r.fits s.fits i;
+  fits = is_prop→PathP (λ j. asked j + length ((left j).items) < 2 ^ 64) (λ j. le_prop) r.fits s.fits i;
 }
 
 module _ (old new : PredicateRun) (v : Value) (place : ℕ) (left : new.left ≡ old.left) (asked : new.asked ≡ old.asked) (is : place ≡ old.asked - 1) where

@@ -4,7 +4,6 @@ use Rattle.std.specs.List.{filter, find, list_any, position_from}
 use Rattle.expr_error.specs.ErrorKind.{ErrorKind}
 use Rattle.expr_value.specs.declared.value.Value.{Value}
 use Rattle.expr_predicates.specs.Calls.{FoldOver}
-use Rattle.expr_predicates.specs.Remaining.{are_lent, items_remaining}
 use Rattle.expr_predicates.specs.Sorting.{beside_keys}
 use Rattle.expr_context.specs.Told.{PredicateArgsView}
 use Rattle.expr_predicates.specs.Folds.{Fold, number, all_hold, any_holds, none_holds, one_holds, mapping, filtering, finding, finding_place, finding_last_place, counting, summing, reducing, grouping, sorting, ItemAnswer, has_stopped, holds, fails, acc_after, first_place, total, items_by_key}
@@ -71,11 +70,11 @@ pub record Awaits (run : PredicateRun) (t : Fold) (rs : List ItemAnswer) : Type 
 
 -- the remaining items, in the order of the calls
 abbrev pub remaining_items : PredicateRun → List Value
-remaining_items run = items_remaining run.left
+remaining_items run = run.left.items
 
 -- whether they are borrowed
 abbrev pub has_lent_items : PredicateRun → Bool
-has_lent_items run = are_lent run.left
+has_lent_items run = run.left.are_lent
 
 -- number of remaining items
 abbrev pub remaining_count : PredicateRun → ℕ
@@ -95,9 +94,3 @@ acc_out run = acc_arg run.gathered
 -- the arguments of the predicate for that item
 abbrev pub pending_args : PredicateRun → Value → PredicateArgsView
 pending_args run item = record { item = item; index = index_out run; acc = acc_out run }
-
--- the same call, after as many items and with the same results; the items that remain are the same too
-pub record IsSameRun (old new : PredicateRun) : Type 0 where
-  pub left : remaining_items new ≡ remaining_items old
-  pub asked : new.asked ≡ old.asked
-  pub gathered : new.gathered ≡ old.gathered

@@ -2,12 +2,15 @@ pub mod Accumulators
 pub mod Allowed
 pub mod AnswersInTurn
 pub mod Calls
+pub mod Detached
 pub mod Folds
 pub mod Grouped
 pub mod Grouping
+pub mod Left
 pub mod Lending
 pub mod Noting
 pub mod Plains
 pub mod Remaining
 pub mod Runs
+pub mod Shared
 pub mod Sorting

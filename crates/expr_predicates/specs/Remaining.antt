@@ -1,16 +1,13 @@
 -- The items that remain, owned or borrowed.
-use Rattle.std.specs.Prelude.{Bool, true, false, List, reverse}
-use Rattle.expr_value.specs.declared.value.Value.{Value}
-use Rattle.expr_predicates.specs.declared.remaining.Remaining.{Remaining}
-use Rattle.expr_predicates.specs.declared.remaining.Remaining.TheVariants.{Owned, Front, Back}
+use Rattle.std.specs.Prelude.{Bool, true, false, List, drop, reverse}
+use Rattle.expr_predicates.specs.Left.{ItemsLeft}
+use Rattle.expr_predicates.specs.Shared.{shared_items}
+use Rattle.expr_predicates.specs.declared.remaining.Source.{Source}
+use Rattle.expr_predicates.specs.declared.remaining.Source.TheVariants.{Owned, Front, Back, Shared}
 
--- in the order of the calls
-abbrev pub items_remaining : Remaining → List Value
-items_remaining (Owned items) = reverse items.items
-items_remaining (Front items) = items.now
-items_remaining (Back items) = reverse items.now
-
-abbrev pub are_lent : Remaining → Bool
-are_lent (Owned items) = false
-are_lent (Front items) = true
-are_lent (Back items) = true
+-- in the order of the calls, and whether they are borrowed
+abbrev pub left_in : Source → ItemsLeft
+left_in (Owned items) = record { items = reverse items.items; are_lent = false }
+left_in (Front items) = record { items = items.now; are_lent = true }
+left_in (Back items) = record { items = reverse items.now; are_lent = true }
+left_in (Shared r taken) = record { items = drop taken (shared_items r.now); are_lent = true }

@@ -15,17 +15,21 @@
 #![tactic(auto)]
 
 mod arguments;
+mod detached;
 mod grouping;
 mod laws;
 mod remaining;
 mod run;
 mod scalar_accumulator;
+mod shared;
 mod sorting;
 mod value_accumulator;
 
+pub use detached::DetachedRun;
 pub use laws::{
     Predicate, a_list_has_one_stable_order, a_run_asks_about_its_items, a_run_is_a_list_of_answers,
     none_is_the_opposite_of_any,
 };
 pub use run::{Noted, Plain, PredicateRun, sort};
+pub use shared::{SharedValue, share};
 pub use sorting::sort_items;

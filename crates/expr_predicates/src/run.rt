@@ -6,11 +6,13 @@ ghost use Rattle.expr_arguments.specs.Arrays.{array_items};
 ghost use Rattle.expr_arguments.specs.Cow.{cow_value};
 ghost use Rattle.expr_predicates.specs.Calls.{SortsItems};
 ghost use Rattle.expr_predicates.specs.Lending.{first_items, is_borrowed, is_lent_array};
-ghost use Rattle.expr_predicates.specs.Remaining.{are_lent, items_remaining};
+ghost use Rattle.expr_predicates.specs.Shared.{IsLonger};
 
 use crate::arguments::{direction, is_downward, runs_alone, takes};
+use crate::detached::DetachedRun;
 use crate::remaining::Remaining;
 use crate::scalar_accumulator::ScalarAccumulator;
+use crate::shared::SharedValue;
 use crate::sorting::sort_items;
 use crate::value_accumulator::{ValueAccumulator, keep_plain};
 use expr_arguments::{
@@ -23,7 +25,7 @@ use std::alloc::Global;
 
 /// What is kept of the results so far.
 #[derive(Drop)]
-enum Accumulator {
+pub(crate) enum Accumulator {
     Scalar(ScalarAccumulator),
     Values(ValueAccumulator),
 }
@@ -193,11 +195,11 @@ pub enum Noted {
 /// with the result, and returns a value once it needs no more. Items of a borrowed array are copied only if they are
 /// kept.
 pub struct PredicateRun<'s> {
-    left: Remaining<'s>,
+    pub(crate) left: Remaining<'s>,
     /// Number of items that were handed out.
-    asked: usize,
-    gathered: Accumulator,
-    ghost fits: { asked + length (items_remaining left) < 2 ^ 64 },
+    pub(crate) asked: usize,
+    pub(crate) gathered: Accumulator,
+    ghost fits: { asked + length left.items < 2 ^ 64 },
 }
 
 // Written by hand so that dropping one is a single step in proofs of callers.
@@ -219,11 +221,8 @@ impl<'s> PredicateRun<'s> {
     ghost use Rattle.std.specs.Prelude.{is_some};
     ghost use Rattle.expr_predicates.specs.Plains.{IsIntegerItem, plain_value};
     ghost use Rattle.expr_predicates.specs.Calls.{fold_of_call, fold_over_if, reduce_from_first, fold_of};
-<<<<<<< ours
     ghost use Rattle.expr_predicates.specs.Accumulators.{Awaits, RunRepresents, StartsWith, acc_out, has_lent_items, pending_args, index_out, remaining_items, remaining_count};
-=======
-    ghost use Rattle.expr_predicates.specs.Accumulators.{Awaits, IsSameRun, RunRepresents, StartsWith, acc_out, pending_args, index_out, remaining_items, remaining_count};
->>>>>>> theirs
+    ghost use Rattle.expr_predicates.specs.Detached.{IsRunOf};
     ghost use Rattle.expr_predicates.specs.Runs.{FoldMayReturn, AnswersItself, next_args};
     ghost use Rattle.expr_predicates.specs.Folds.{Fold, ItemAnswer, FoldOutcome, args_about, first_place, front_fold, has_stopped, refuses_answer, tells_acc, tells_index};
 
@@ -621,14 +620,20 @@ impl<'s> PredicateRun<'s> {
         } = self;
         gathered.outcome(alloc)
     }
-
-    /// The same call, with items that it owns. Borrowed ones are copied, and their weight is subtracted from `size`.
+    /// The same call without a borrow. Borrowed items are copied, once: the copy joins the shared values, and its weight
+    /// is subtracted from `size`.
     ///
     /// # Errors
     ///
     /// Returns `MemoryError` if an allocation fails, or if there is no size left. The call is lost then.
-    pub fn into_owned(self, alloc: Global, size: &mut u64) -> Result<PredicateRun<'static>>
-        ensures same { IfOk result (λ owned. IsSameRun self.entry owned) }
+    pub fn detach(
+        self,
+        alloc: Global,
+        size: &mut u64,
+        shared: &mut Vec<SharedValue>,
+    ) -> Result<DetachedRun>
+        ensures longer { IsLonger shared.old.items shared.new.items }
+        ensures run { IfOk result (λ made. IsRunOf shared.new.items made self.entry) }
         ensures refusal { OnlyMemory result }
     {
         let PredicateRun {
@@ -636,8 +641,8 @@ impl<'s> PredicateRun<'s> {
             asked,
             gathered,
         } = self;
-        let left = left.into_owned(alloc, size)?;
-        Ok(PredicateRun {
+        let left = left.detach(alloc, size, shared)?;
+        Ok(DetachedRun {
             left,
             asked,
             gathered,

@@ -3,7 +3,8 @@ use Rattle.std.proofs.Common.{◌≡◌, ℕ, zero, suc, ◌+◌, ◌<◌, ◌�
 use Rattle.std.proofs.lemmas.List.{append-nil, map-append, take_more}
 use Rattle.std.specs.Prelude.{unwrap_or}
 use Rattle.expr_stack.proofs.Within.{get_grown}
-use Rattle.expr_stack.specs.Detached.{AreShared, IsEntry, IsLonger, IsMemoryOf, IsOfCell, IsShared, IsStackOf, Pairs, cell_detached}
+use Rattle.expr_predicates.specs.Shared.{IsLonger}
+use Rattle.expr_stack.specs.Detached.{AreShared, IsEntry, IsMemoryOf, IsOfCell, IsShared, IsStackOf, Pairs, cell_detached}
 use Rattle.expr_stack.specs.Memories.{MemoryView}
 use Rattle.expr_stack.specs.declared.cell.Cell.TheVariants as cell
 use Rattle.expr_stack.specs.declared.cell.Cell.{Cell}

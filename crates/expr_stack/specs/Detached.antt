@@ -1,5 +1,5 @@
 -- What a run holds while it waits: copies stand for what was lent, and the cells are the same.
-use Rattle.std.specs.Prelude.{◌≡◌, ℕ, ◌<◌, List, [], ◌∷◌, ◌++◌, length, map, reverse, slice_get, unwrap_or}
+use Rattle.std.specs.Prelude.{◌≡◌, ℕ, ◌<◌, List, [], ◌∷◌, length, map, reverse, slice_get, unwrap_or}
 use Rattle.expr_stack.specs.Cells.{AreWithin}
 use Rattle.expr_stack.specs.Memories.{MemoryView}
 use Rattle.expr_stack.specs.Stacked.{AreFilled, HasOwnValues, cells_of_entries}
@@ -21,10 +21,6 @@ abbrev pub Pairs : {A B : Type 0} → (A → B → Type 0) → List A → List B
 Pairs R [] [] = Unit {0}
 Pairs R (x ∷ xs) (y ∷ ys) = R x y × Pairs R xs ys
 Pairs R xs ys = ⊥
-
--- what was shared is shared still, under the same indices, and more may be
-abbrev pub IsLonger : (old new : List Value) → Type 0
-IsLonger old new = (more : List Value) × (new ≡ old ++ more)
 
 -- the cell of what a slot holds, given the shared values: one of these is as lent
 abbrev pub cell_detached : List Value → DetachedOperand → Cell

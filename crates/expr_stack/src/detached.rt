@@ -1,7 +1,8 @@
 //! What a run holds while it waits. It lends nothing: copies stand for what was lent.
 ghost use Rattle.std.specs.Prelude.{◌≡◌, IfOk, List, length, map};
 ghost use Rattle.expr_error.specs.ErrorKind.{OnlyMemory};
-ghost use Rattle.expr_stack.specs.Detached.{AreShared, IsEntry, IsLonger, IsMemoryOf, IsShared, IsStackOf, Pairs, cell_detached};
+ghost use Rattle.expr_predicates.specs.Shared.{IsLonger};
+ghost use Rattle.expr_stack.specs.Detached.{AreShared, IsEntry, IsMemoryOf, IsShared, IsStackOf, Pairs, cell_detached};
 ghost use Rattle.expr_stack.specs.Memories.{MemoryView};
 ghost use Rattle.expr_stack.specs.Operands.{cell_of};
 ghost use Rattle.expr_stack.specs.declared.cell.Cell.{Cell};
@@ -10,8 +11,8 @@ ghost use Rattle.expr_stack.specs.declared.entry.Entry.{Entry as declared};
 use crate::entry::Entry;
 use crate::memory::{Memory, MemoryParts};
 use crate::operand::Operand;
-use crate::shared::SharedValue;
 use crate::stack::{Stack, StackParts};
+use expr_predicates::{SharedValue, share};
 use expr_value::{Result, Value};
 use std::alloc::Global;
 
@@ -67,23 +68,17 @@ impl<'s> Operand<'s> {
         match self {
             Operand::Integer(n) => Ok(DetachedOperand::Integer(n)),
             Operand::Bool(b) => Ok(DetachedOperand::Bool(b)),
-            Operand::Lent(value) => share(shared, SharedValue::copy_of(alloc, value, size)?),
-            Operand::Shared(value) => share(shared, value.again(size)?),
+            Operand::Lent(value) => {
+                let copy = SharedValue::copy_of(alloc, value, size)?;
+                Ok(DetachedOperand::Shared(share(shared, copy)?))
+            }
+            Operand::Shared(value) => {
+                let value = value.again(size)?;
+                Ok(DetachedOperand::Shared(share(shared, value)?))
+            }
             Operand::Kept(place) => Ok(DetachedOperand::Kept(place)),
         }
     }
-}
-
-/// Adds a shared value, and returns what stands for it.
-fn share(shared: &mut Vec<SharedValue>, value: SharedValue) -> Result<DetachedOperand>
-    ensures longer { IsLonger shared.old.items shared.new.items }
-    ensures cell { IfOk result (λ made. IsShared (length shared.new.items) made
-        × (cell_detached shared.new.items made ≡ Cell.Value value)) }
-    ensures refusal { OnlyMemory result }
-{
-    let place = shared.len();
-    shared.push(value)?;
-    Ok(DetachedOperand::Shared(place))
 }
 
 impl DetachedOperand {

@@ -9,7 +9,6 @@ mod integers;
 mod many;
 mod memory;
 mod operand;
-mod shared;
 mod stack;
 
 pub use cell::Cell;
@@ -17,5 +16,4 @@ pub use detached::{DetachedMemory, DetachedStack};
 pub use many::map_under;
 pub use memory::Memory;
 pub use operand::{Operand, TopOperand};
-pub use shared::SharedValue;
 pub use stack::Stack;

@@ -1,7 +1,8 @@
 use Rattle.std.proofs.Common.{map}
 use Rattle.expr_machine.specs.Pausing.{HoldsFrame}
 use Rattle.expr_machine.specs.Seen.{waiting_of}
-use Rattle.expr_stack.specs.Detached.{IsLonger, Pairs}
+use Rattle.expr_predicates.specs.Shared.{IsLonger}
+use Rattle.expr_stack.specs.Detached.{Pairs}
 use Rattle.expr_machine.proofs.paused.detach_frames.Given as goal
 
 abbrev pub invariant-loop-frame : goal.invariant-loop-frame

@@ -1,5 +1,6 @@
 use Rattle.std.proofs.Common.{take}
-use Rattle.expr_stack.specs.Detached.{IsEntry, IsLonger, Pairs}
+use Rattle.expr_predicates.specs.Shared.{IsLonger}
+use Rattle.expr_stack.specs.Detached.{IsEntry, Pairs}
 use Rattle.expr_stack.proofs.detached.detach_entries.Given as goal
 
 abbrev pub invariant-loop-entry : goal.invariant-loop-entry

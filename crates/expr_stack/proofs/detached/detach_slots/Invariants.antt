@@ -1,5 +1,6 @@
 use Rattle.std.proofs.Common.{◌≡◌, length, map, take}
-use Rattle.expr_stack.specs.Detached.{AreShared, IsLonger, cell_detached}
+use Rattle.expr_predicates.specs.Shared.{IsLonger}
+use Rattle.expr_stack.specs.Detached.{AreShared, cell_detached}
 use Rattle.expr_stack.specs.Operands.{cell_of}
 use Rattle.expr_stack.proofs.detached.detach_slots.Given as goal
 
