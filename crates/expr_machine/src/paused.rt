@@ -131,8 +131,10 @@ where
         shared: &'s [SharedValue],
     ) -> Result<Machine<'a, 'c, 's, 'm, H, P, L, N, K, Global, M>>
         requires { IsRunHeld shared.now lists }
-        // Its state is the one that waited.
-        ensures state { (s : State) → HoldsRun shared.now lists s → IfOk result
+        ensures state { IfOk result (λ machine. HoldsRun shared.now lists
+            (state_of H.host P.context L.held (text_of N.held) M.metered machine)) }
+        // That is the state in which the run waited.
+        ensures same { (s : State) → HoldsRun shared.now lists s → IfOk result
             (λ machine. state_of H.host P.context L.held (text_of N.held) M.metered machine ≡ s) }
         // What it comes to, given a reply, is what the run would have come to that waited.
         ensures comes { (s : State) → HoldsRun shared.now lists s → IfOk result

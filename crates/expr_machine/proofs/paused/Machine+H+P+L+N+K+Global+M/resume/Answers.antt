@@ -4,18 +4,13 @@ use Rattle.expr_acts.specs.Here.{here}
 use Rattle.expr_acts.specs.Texts.{text_of}
 use Rattle.expr_code.specs.Instructions.{Op}
 use Rattle.expr_frames.specs.Machines.{ComesReplied}
-use Rattle.expr_frames.specs.Runs.{Waiting}
 use Rattle.expr_limits.specs.Rooms.{Room}
 use Rattle.expr_lowering.specs.Blocks.{blocks_of}
 use Rattle.expr_machine.proofs.Waits.{held_state}
-use Rattle.expr_machine.specs.Pausing.{HoldsFrame, HoldsRun}
+use Rattle.expr_machine.specs.Pausing.{HoldsFrame}
 use Rattle.expr_machine.specs.Seen as seen
-use Rattle.expr_machine.specs.declared.paused.PausedLists.{PausedLists}
 use Rattle.expr_meaning.specs.World.{World}
-use Rattle.expr_stack.specs.Detached.{IsMemoryOf, IsStackOf, Pairs}
-use Rattle.expr_stack.specs.Memories.{MemoryView}
-use Rattle.expr_stack.specs.declared.cell.Cell.{Cell}
-use Rattle.expr_value.specs.declared.value.Value.{Value}
+use Rattle.expr_stack.specs.Detached.{Pairs}
 use Rattle.expr_machine.proofs.paused.Machine+H+P+L+N+K+Global+M.resume.Goals as goal
 
 pub attach-requires : goal.attach-requires
@@ -27,27 +22,23 @@ attach_frames-requires g c = (reverse c.requires.0.frames, c.requires.1.frames)
 pub attach-requires-2 : goal.attach-requires-2
 attach-requires-2 g c = (c.requires.0.stack, c.requires.1.stack)
 
--- what the lists hold that were made
-made : (shared : List Value) (lists : PausedLists) (memory : MemoryView) (stack : List Cell) (frames : List Waiting)
-    → IsMemoryOf shared lists.memory memory → IsStackOf shared lists.stack stack → Pairs (HoldsFrame shared) lists.frames.items frames
-    → HoldsRun shared lists (record { number = lists.number; at = lists.at; stack = stack; memory = memory; frames = reverse frames; begun = lists.begun })
-made shared lists memory stack frames m s fs = record {
-  memory = m;
-  stack = s;
-  frames = subst (Pairs (HoldsFrame shared) lists.frames.items) (sym (reverse-reverse frames)) fs;
+pub returns-clause-state : goal.returns-clause-state
+returns-clause-state g c = record {
+  memory = c.in_ok-memory.ensures.view;
+  stack = c.in_ok-stack.ensures.cells;
+  frames = subst (Pairs (HoldsFrame c.args.shared.now) c.args.lists.frames.items) (sym (reverse-reverse (map seen.waiting_of c.in_ok-frames.frames.items))) c.in_ok-frames.ensures.frames;
   rest = refl;
 }
 
-pub returns-clause-state : goal.returns-clause-state
-returns-clause-state g c = λ s held.
-    held_state c.args.shared.now c.args.lists _ s (made c.args.shared.now c.args.lists c.in_ok-memory.memory c.in_ok-stack.stack (map seen.waiting_of c.in_ok-frames.frames.items) c.in_ok-memory.ensures.view c.in_ok-stack.ensures.cells c.in_ok-frames.ensures.frames) held
+pub returns-clause-same : goal.returns-clause-same
+returns-clause-same g c = λ s held. held_state c.args.shared.now c.args.lists _ s (returns-clause-state g c) held
 
 pub returns-clause-comes : goal.returns-clause-comes
 returns-clause-comes g c = λ s held awaited given e.
     let w : World = here g.H.Functions.host g.P.ContextProvider.context c.args.world.now in
     let B : List (List Op) = blocks_of g.L.Pointer.held (text_of g.N.Pointer.held) c.args.code.now in
     let now : Room = (g.M.Meter.metered c.args.meter).room in
-    let same = returns-clause-state g c s held in (
+    let same = returns-clause-same g c s held in (
       subst (λ u. ComesReplied w B u awaited given now e) same,
       subst (λ u. ComesReplied w B u awaited given now e) (sym same),
     )
