@@ -88,7 +88,9 @@ held_state shared lists s t p q =
     let memory = held_memory shared lists.memory s.memory t.memory p.memory q.memory in
     let turned = held_frames shared lists.frames.items (reverse s.frames) (reverse t.frames) p.frames q.frames in
     let frames = sym (reverse-reverse s.frames) ∙ ap reverse turned ∙ reverse-reverse t.frames in
-    let same : record s { number = lists.number; at = lists.at; begun = lists.begun } ≡ record t { number = lists.number; at = lists.at; begun = lists.begun } =
+    let one : State = record s { number = lists.number; at = lists.at; begun = lists.begun } in
+    let other : State = record t { number = lists.number; at = lists.at; begun = lists.begun } in
+    let same : one ≡ other =
     λ i. record {
       number = lists.number;
       at = lists.at;

@@ -94,7 +94,7 @@ impl DetachedRemaining {
     /// The same items in a run that goes on. It borrows the shared values.
     fn attach<'s>(self, shared: &'s [SharedValue]) -> Remaining<'s>
         requires { AreFound (length shared.now) self }
-        ensures { result ≡ left_detached shared.now self.entry }
+        ensures { result ≡ left_detached shared.now self }
     {
         let source = match self {
             DetachedRemaining::Owned(items) => Source::Owned(items),

@@ -1,5 +1,5 @@
 //! The items for which the predicate is still to be called.
-ghost use Rattle.std.specs.Prelude.{◌≡◌, ◌∷◌, [], IfSome, MatchOption, false, reverse};
+ghost use Rattle.std.specs.Prelude.{◌≡◌, ◌<◌, ◌^◌, ◌∷◌, [], IfSome, MatchOption, false, length, reverse};
 ghost use Rattle.expr_arguments.specs.Arrays.{array_items};
 ghost use Rattle.expr_arguments.specs.Cow.{cow_value};
 ghost use Rattle.expr_predicates.specs.Plains.{IsIntegerItem, plain_value};
@@ -46,6 +46,7 @@ impl<'s> Remaining<'s> {
     /// The items of an array, from first to last.
     pub(crate) fn forward(array: Array<'s>) -> Remaining<'s>
         ensures items { result.items ≡ array_items array.entry }
+        ensures count { length result.items < 2 ^ 63 }
         ensures lent { result.are_lent ≡ is_lent_array array.entry }
     {
         let source = match array {
@@ -62,6 +63,7 @@ impl<'s> Remaining<'s> {
     /// The items of an array, from last to first.
     pub(crate) fn backward(array: Array<'s>) -> Remaining<'s>
         ensures items { result.items ≡ reverse (array_items array.entry) }
+        ensures count { length result.items < 2 ^ 63 }
         ensures lent { result.are_lent ≡ is_lent_array array.entry }
     {
         let source = match array {
