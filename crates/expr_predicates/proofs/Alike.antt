@@ -1,5 +1,5 @@
 -- A call that waits stands for one call, and stands for it still when more is shared.
-use Rattle.std.proofs.Common.{◌≡◌, ℕ, ◌+◌, ◌<◌, ◌≤◌, List, ◌++◌, length, true, refl, ap, ◌∙◌, sym, subst, arith, drop, length-append}
+use Rattle.std.proofs.Common.{◌≡◌, ℕ, ◌<◌, List, ◌++◌, length, true, refl, ap, ◌∙◌, sym, subst, arith, drop, length-append}
 use Rattle.std.proofs.lemmas.List.{get_or_append_left}
 use Rattle.std.proofs.lemmas.Option.{unwrap_or-slice_get}
 use Rattle.std.specs.Prelude.{slice_get, unwrap_or}

@@ -1,5 +1,5 @@
 -- What an array weighs.
-use Rattle.std.proofs.Common.{◌≡◌, ℕ, suc, ◌+◌, List, map, ap, ◌∙◌, arith, rules}
+use Rattle.std.proofs.Common.{◌≡◌, suc, ◌+◌, List, map, ap, ◌∙◌, arith, rules}
 use Rattle.std.specs.List.{sum_by}
 use Rattle.std.proofs.lemmas.List.Folds.{fold-map}
 use Rattle.expr_limits.specs.Sizes.{inner_weight, weight, weights}

@@ -1,5 +1,5 @@
 -- The items that remain, owned or borrowed.
-use Rattle.std.specs.Prelude.{Bool, true, false, List, drop, reverse}
+use Rattle.std.specs.Prelude.{true, false, drop, reverse}
 use Rattle.expr_predicates.specs.Left.{ItemsLeft}
 use Rattle.expr_predicates.specs.Shared.{shared_items}
 use Rattle.expr_predicates.specs.declared.remaining.Source.{Source}

@@ -1,7 +1,6 @@
 -- Values that a run shares with itself when it goes on.
-use Rattle.std.specs.Prelude.{◌≡◌, List, [], ◌++◌, slice_get, unwrap_or}
+use Rattle.std.specs.Prelude.{◌≡◌, List, [], ◌++◌, unwrap_or}
 use Rattle.expr_value.specs.Values.{items_of}
-use Rattle.expr_value.specs.declared.value.Value as value
 use Rattle.expr_value.specs.declared.value.Value.{Value}
 
 -- what was shared is shared still, under the same indices, and more may be
