@@ -4,6 +4,7 @@ use Rattle.expr_acts.specs.Here.{here}
 use Rattle.expr_acts.specs.Texts.{text_of}
 use Rattle.expr_code.specs.Instructions.{Op}
 use Rattle.expr_frames.specs.Machines.{ComesReplied}
+use Rattle.expr_frames.specs.Runs.{State}
 use Rattle.expr_limits.specs.Rooms.{Room}
 use Rattle.expr_lowering.specs.Blocks.{blocks_of}
 use Rattle.expr_machine.proofs.Waits.{held_state}
@@ -31,14 +32,23 @@ returns-clause-state g c = record {
 }
 
 pub returns-clause-same : goal.returns-clause-same
-returns-clause-same g c = λ s held. held_state c.args.shared.now c.args.lists _ s (returns-clause-state g c) held
+returns-clause-same g c = λ s held.
+    let lists = c.args.lists in
+    let t : State = record {
+      number = lists.number;
+      at = lists.at;
+      stack = c.in_ok-stack.stack;
+      memory = c.in_ok-memory.memory;
+      frames = reverse (map seen.waiting_of c.in_ok-frames.frames.items);
+      begun = lists.begun;
+    } in
+    held_state c.args.shared.now lists t s (returns-clause-state g c) held
 
 pub returns-clause-comes : goal.returns-clause-comes
 returns-clause-comes g c = λ s held awaited given e.
     let w : World = here g.H.Functions.host g.P.ContextProvider.context c.args.world.now in
     let B : List (List Op) = blocks_of g.L.Pointer.held (text_of g.N.Pointer.held) c.args.code.now in
     let now : Room = (g.M.Meter.metered c.args.meter).room in
-    let same = returns-clause-same g c s held in (
-      subst (λ u. ComesReplied w B u awaited given now e) same,
-      subst (λ u. ComesReplied w B u awaited given now e) (sym same),
-    )
+    let P : State → Type 0 = λ u. ComesReplied w B u awaited given now e in
+    let same = returns-clause-same g c s held in
+    (subst P same, subst P (sym same))
