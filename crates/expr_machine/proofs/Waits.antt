@@ -1,8 +1,6 @@
 -- Frames of a run that waits hold what they held when more values are shared, and lists hold one run.
-use Rattle.std.proofs.Common.{◌≡◌, Bool, List, [], ◌∷◌, ◌++◌, reverse, refl, sym, ap, ◌∙◌, subst}
+use Rattle.std.proofs.Common.{◌≡◌, List, [], ◌∷◌, ◌++◌, reverse, refl, sym, ap, ◌∙◌, subst}
 use Rattle.std.proofs.lemmas.List.{reverse-reverse}
-use Rattle.expr_code.specs.Instructions.{Op}
-use Rattle.expr_frames.specs.Ready.{MayBeGiven}
 use Rattle.expr_frames.specs.Runs.{State, Waiting}
 use Rattle.expr_machine.specs.Pausing.{HoldsFrame, HoldsRun}
 use Rattle.expr_machine.specs.declared.paused.DetachedFrame.{DetachedFrame}
@@ -100,7 +98,3 @@ held_state shared lists s t p q =
       begun = lists.begun;
     } in
     p.rest ∙ same ∙ sym q.rest
-
--- a run that is as one that may be given a reply may be given it too
-pub given_same : (counted : Bool) (blocks : List (List Op)) (s t : State) → s ≡ t → MayBeGiven counted blocks s → MayBeGiven counted blocks t
-given_same counted blocks s t same = subst (MayBeGiven counted blocks) same
