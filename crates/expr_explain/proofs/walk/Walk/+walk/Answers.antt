@@ -338,7 +338,7 @@ selected_program-returns-in_err-value-in-Bool-true-clause-told g t c =
     let first = program_term c.args.consequent.now in
     let second = program_term c.args.alternative.now in
     let among = InBranches host v names n first second in
-    tells_branch_one host names n n v a c.block.new.notes.parts.items first second (c.in-Bool-true.is ∙ ap value.Bool c.in-Bool-true.field-0-is) c.block.ensures.told
+    tells_branch_one host names n n v a c.block.new.notes.parts.items first second (c.in-Bool-true.is ∙ ap value.Bool (sym c.in-Bool-true.field-0-is ∙ c.in-Bool-true.field-0-test)) c.block.ensures.told
 
 pub selected_program-returns-in_err-skip_program-in-Bool-true-clause-told : goal.selected_program-returns-in_err-skip_program-in-Bool-true-clause-told
 selected_program-returns-in_err-skip_program-in-Bool-true-clause-told g t c =
@@ -351,7 +351,7 @@ selected_program-returns-in_err-skip_program-in-Bool-true-clause-told g t c =
     let second = program_term c.args.alternative.now in
     let among = InBranches host v names n first second in
     let b = c.block.new.notes.parts.items in
-    tells_same host among a b c.skip_program.new.self.parts.items c.skip_program.ensures.parts (tells_branch_one host names n n v a b first second (c.in-Bool-true.is ∙ ap value.Bool c.in-Bool-true.field-0-is) c.block.ensures.told)
+    tells_same host among a b c.skip_program.new.self.parts.items c.skip_program.ensures.parts (tells_branch_one host names n n v a b first second (c.in-Bool-true.is ∙ ap value.Bool (sym c.in-Bool-true.field-0-is ∙ c.in-Bool-true.field-0-test)) c.block.ensures.told)
 
 pub selected_program-returns-in_ok-skip_program-in-Bool-true-clause-told : goal.selected_program-returns-in_ok-skip_program-in-Bool-true-clause-told
 selected_program-returns-in_ok-skip_program-in-Bool-true-clause-told g t c =
@@ -364,7 +364,7 @@ selected_program-returns-in_ok-skip_program-in-Bool-true-clause-told g t c =
     let second = program_term c.args.alternative.now in
     let among = InBranches host v names n first second in
     let b = c.block.new.notes.parts.items in
-    tells_same host among a b c.skip_program.new.self.parts.items c.skip_program.ensures.parts (tells_branch_one host names n n v a b first second (c.in-Bool-true.is ∙ ap value.Bool c.in-Bool-true.field-0-is) c.block.ensures.told)
+    tells_same host among a b c.skip_program.new.self.parts.items c.skip_program.ensures.parts (tells_branch_one host names n n v a b first second (c.in-Bool-true.is ∙ ap value.Bool (sym c.in-Bool-true.field-0-is ∙ c.in-Bool-true.field-0-test)) c.block.ensures.told)
 
 pub selected_program-returns-in_err-skip_program-in-Bool-false-clause-told : goal.selected_program-returns-in_err-skip_program-in-Bool-false-clause-told
 selected_program-returns-in_err-skip_program-in-Bool-false-clause-told g t c =
@@ -391,7 +391,7 @@ selected_program-returns-in_ok-skip_program-in-Bool-false-clause-told g t c =
     let b = c.skip_program-in-Bool-false.new.self in
     let d = c.block-in-Bool-false.new.notes.parts.items in
     subst (λ xs. TellsOf host among xs d) c.skip_program-in-Bool-false.ensures.parts (
-    tells_branch_two host names n b.count v b.parts.items d first second (c.in-Bool-false.is ∙ ap value.Bool c.in-Bool-false.field-0-is) c.in_ok-skip_program-in-Bool-false.ensures.count c.block-in-Bool-false.ensures.told
+    tells_branch_two host names n b.count v b.parts.items d first second (c.in-Bool-false.is ∙ ap value.Bool (sym c.in-Bool-false.field-0-is ∙ c.in-Bool-false.field-0-test)) c.in_ok-skip_program-in-Bool-false.ensures.count c.block-in-Bool-false.ensures.told
     )
 
 pub selected_program-returns-in_default-clause-told : goal.selected_program-returns-in_default-clause-told
