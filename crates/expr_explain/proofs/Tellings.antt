@@ -65,13 +65,13 @@ module _ (host : Host) where
     new_is = new;
     of_these =
         All-cons (IsToldOf host among) told [] (
-        spot,
-        here,
-        record {
-          tree = note.same;
-          number = note.under ∙ counted;
-          found = subst (λ f. IsFound (Allows (world_of host spot.names) spot.tree) f) (sym note.gives) allowed;
-        }
+          spot,
+          here,
+          record {
+            tree = note.same;
+            number = note.under ∙ counted;
+            found = subst (λ f. IsFound (Allows (world_of host spot.names) spot.tree) f) (sym note.gives) allowed;
+          },
         ) (All-nil (IsToldOf host among));
   }
 
@@ -118,8 +118,8 @@ module _ (host : Host) where
     tells_operation op l r v is counted allowed p q =
         tells_then (InParts host names n whole) a b c (tells_left names n whole a b op l r is p) (
         tells_among (InRight host op v names m r) (InParts host names n whole) b c (
-          λ s x. subst (λ u. InParts host names n u s) (sym is) (inr (v, allowed, x.0, subst (λ k. InTree host names k r s) counted x.1))
-          ) q
+        λ s x. subst (λ u. InParts host names n u s) (sym is) (inr (v, allowed, x.0, subst (λ k. InTree host names k r s) counted x.1))
+        ) q
         )
 
     selected : (t : Term) (first second : Block) (v : Value) → Allows (world_of host names) t (Ok v) → m ≡ n + weight t
@@ -135,8 +135,8 @@ module _ (host : Host) where
     tells_choice t first second v is counted allowed p q =
         tells_then (InParts host names n whole) a b c (tells_condition names n whole a b t first second is p) (
         tells_among (InBranches host v names m first second) (InParts host names n whole) b c (
-          λ s x. subst (λ u. InParts host names n u s) (sym is) (selected t first second v allowed counted s x)
-          ) q
+        λ s x. subst (λ u. InParts host names n u s) (sym is) (selected t first second v allowed counted s x)
+        ) q
         )
 
   -- what a side tells that the value before it selects
@@ -177,8 +177,8 @@ told_all host names names' n b old new outside first none p =
     let same : new ≡ p.added = p.new_is ∙ ap (λ xs. xs ++ p.added) none in
     subst (λ xs. All (IsToldOfProgram host names' b) xs) (sym same) (
     All-weaker (IsToldOf host (InBlock host names n b)) (IsToldOfProgram host names' b) (
-      λ told x. (x.0, subst (λ k. InBlock host names' k b x.0) first (subst (λ ctx. InBlock host ctx n b x.0) outside x.1), x.2)
-      ) p.added p.of_these
+    λ told x. (x.0, subst (λ k. InBlock host names' k b x.0) first (subst (λ ctx. InBlock host ctx n b x.0) outside x.1), x.2)
+    ) p.added p.of_these
     )
 
 -- an operator on a right side that allows as much

@@ -35,7 +35,7 @@ abbrev mutual
   InParts host names n (choice c first second) spot =
       ((spot ≡ spot_at names n c) ⊎ InParts host names n c spot)
       ⊎ ((Allows (world_of host names) c (Ok (value.Bool true)) × InBlock host names (n + weight c) first spot)
-        ⊎ (Allows (world_of host names) c (Ok (value.Bool false)) × InBlock host names (n + weight c + block_weight first) second spot))
+      ⊎ (Allows (world_of host names) c (Ok (value.Bool false)) × InBlock host names (n + weight c + block_weight first) second spot))
   InParts host names n t spot = ⊥
 
   -- The spot is in what comes after an operand of this value: the side that a condition selects, or what replaces nil.

@@ -13,10 +13,10 @@ returns c =
     let u = term_of c.args.node.now in
     record {
       told = elim c.match-count_nodes.branch [
-          in-Ok w ↦
+        | in-Ok w ↦
             subst (λ (s : Notes). AddsOne old s.parts.items u (c.args.before + weight u) finding.Failed) (sym w.self-is) (
             subst (λ e. AddsOne old w.add.new.self.parts.items u e finding.Failed) w.in-Ok.ensures.ok w.add.ensures.told
             )
-          | in-Err w ↦ inl (ap (λ (s : Notes). s.parts.items) w.self-is)
-          ];
+        | in-Err w ↦ inl (ap (λ (s : Notes). s.parts.items) w.self-is)
+      ];
     }

@@ -434,8 +434,8 @@ block-returns-in_err-value-clause-answer g t c =
     let told : TellsOf host whole a d =
     tells_then host whole a b d c.loop-name.invariant.told (
     tells_among host (InTree host here m (term_of l.1)) whole b d (
-      λ s x. c.loop-name.invariant.spots s (subst (λ ls. InBlock host here m (lines_of ls) s) (sym at) (inl x))
-      ) c.visit.ensures.told
+    λ s x. c.loop-name.invariant.spots s (subst (λ ls. InBlock host here m (lines_of ls) s) (sym at) (inl x))
+    ) c.visit.ensures.told
     ) in
     let k = error_kind c.in_err-value.field-0.0 in
     Returns-passed c.from_residual.result c.in_err-value.field-0.0 (AllowsBlock (world_of host names) (program_term p)) c.from_residual.ensures.1 (
@@ -471,8 +471,8 @@ block-returns-in_err-value-clause-told g t c =
     let told : TellsOf host whole a d =
     tells_then host whole a b d c.loop-name.invariant.told (
     tells_among host (InTree host here m (term_of l.1)) whole b d (
-      λ s x. c.loop-name.invariant.spots s (subst (λ ls. InBlock host here m (lines_of ls) s) (sym at) (inl x))
-      ) c.visit.ensures.told
+    λ s x. c.loop-name.invariant.spots s (subst (λ ls. InBlock host here m (lines_of ls) s) (sym at) (inl x))
+    ) c.visit.ensures.told
     ) in
     told
 
@@ -503,8 +503,8 @@ block-returns-in_err-push-clause-told g t c =
     let told : TellsOf host whole a d =
     tells_then host whole a b d c.loop-name.invariant.told (
     tells_among host (InTree host here m (term_of l.1)) whole b d (
-      λ s x. c.loop-name.invariant.spots s (subst (λ ls. InBlock host here m (lines_of ls) s) (sym at) (inl x))
-      ) c.visit.ensures.told
+    λ s x. c.loop-name.invariant.spots s (subst (λ ls. InBlock host here m (lines_of ls) s) (sym at) (inl x))
+    ) c.visit.ensures.told
     ) in
     told
 
@@ -535,8 +535,8 @@ block-loop-name-preserved g t c =
     let told : TellsOf host whole a d =
     tells_then host whole a b d c.loop-name.invariant.told (
     tells_among host (InTree host here m (term_of l.1)) whole b d (
-      λ s x. c.loop-name.invariant.spots s (subst (λ ls. InBlock host here m (lines_of ls) s) (sym at) (inl x))
-      ) c.visit.ensures.told
+    λ s x. c.loop-name.invariant.spots s (subst (λ ls. InBlock host here m (lines_of ls) s) (sym at) (inl x))
+    ) c.visit.ensures.told
     ) in
     let v = c.in_ok-value.value in
     let after : Layer-F Layer = record { lines = c.push.new.self; outer = (out-Layer inner).outer } in
@@ -587,8 +587,8 @@ block-returns-clause-told g t c =
     let d = c.visit-2.new.notes.parts.items in
     tells_then host whole a b d c.loop-name.invariant.told (
     tells_among host (InTree host here m (term_of p.expr)) whole b d (
-      λ s x. c.loop-name.invariant.spots s (subst (λ ls. InBlock host here m (lines_of ls) s) (sym (drop_all i lines over)) x)
-      ) c.visit-2.ensures.told
+    λ s x. c.loop-name.invariant.spots s (subst (λ ls. InBlock host here m (lines_of ls) s) (sym (drop_all i lines over)) x)
+    ) c.visit-2.ensures.told
     )
 
 pub block-visit-requires : goal.block-visit-requires
