@@ -164,4 +164,6 @@ fn put_code(
     page.put_call("ReusableMachine::execute", machine.execute(host, context));
     let outcome = machine.execute_limited(host, context, &limits);
     page.put_limited("ReusableMachine::execute_limited", outcome);
+    let used = machine.execute_used(host, context, &limits);
+    page.put_limited("ReusableMachine::execute_used", used.outcome);
 }

@@ -1,15 +1,12 @@
 -- What a check tells of the forms that have parts, by what it tells of the parts.
-use Rattle.std.proofs.Common.{◌≡◌, ℕ, List, Bool, true, false, Option, Some, MatchOption, refl, sym, subst, inl, inr}
-use Rattle.expr_tree.specs.Term.{Term, literal, list, range, postfix, choice, index, coalesce, ternary, call, Terms, no_terms, term, Predicate, Block}
+use Rattle.std.proofs.Common.{◌≡◌, ℕ, List, Bool, true, false, refl, inl, inr}
+use Rattle.expr_tree.specs.Term.{Term, literal, list, range, postfix, choice, index, coalesce, ternary, Terms, no_terms, term, Block}
 use Rattle.expr_value.specs.declared.value.Value as value
-use Rattle.expr_schema.specs.Kinds.{Kind, any, never, bool, integer, bytes, array, map, keyed, nilable, Fields, Fits, Effect}
-use Rattle.expr_schema.specs.Scopes.{Scope, Signature}
-use Rattle.expr_functions.specs.Functions.{builtin_named}
-use Rattle.expr_meaning.specs.Allows.{is_given}
-use Rattle.expr_kinds.specs.Effects.{CoversEffect}
+use Rattle.expr_schema.specs.Kinds.{Kind, any, bool, integer, bytes, array, map, keyed, nilable, Fields, Fits, Effect}
+use Rattle.expr_schema.specs.Scopes.{Scope}
 use Rattle.expr_kinds.specs.Narrowing.{assuming}
 use Rattle.expr_kinds.specs.Scopes.{at_name}
-use Rattle.expr_kinds.specs.Typed.{AllFit, BuiltinGives, BySignature, Within, Typed, TypedAll, TypedBlock, TypedEach, TypedPredicate, literals_of}
+use Rattle.expr_kinds.specs.Typed.{Within, Typed, TypedAll, TypedBlock}
 use Rattle.expr_kinds.proofs.Judged.{within-fits}
 
 module _ (e : Effect) (s : Scope) where
@@ -51,11 +48,6 @@ module _ (e : Effect) (s : Scope) where
 
   pub optional-typed : (t i : Term) (k key : Kind) → Of t k → Of i key → Typed e s (postfix (index i true) t) any
   optional-typed t i k key (a, ha, fa) (b, hb, fb) = inl (a, ha, inr (refl, inr ((b, hb), refl)))
-
-  -- a call of a host's function
-  pub signed-typed : (key : List ℕ) (ts : Terms) (p : Predicate) (ks : List Kind) (sig : Signature) → s.functions key ≡ Some sig → TypedEach e s ts ks → AllFit ks sig.arguments never → CoversEffect e sig.effect → Typed e s (call key ts p) sig.gives
-  signed-typed key ts p ks sig q h fit covers =
-      inl (ks, h, subst (λ (o : Option Signature). MatchOption o (BuiltinGives e s (builtin_named key) (literals_of ts) ks (is_given p) (λ inside item answer. TypedPredicate e inside item p answer) sig.gives) (BySignature e ks sig.gives)) (sym q) (fit, refl, covers))
 
   -- the items of an array
   pub all-fit : (ts : Terms) (a b : Kind) → Fits a b → TypedAll e s ts a → TypedAll e s ts b

@@ -1,5 +1,5 @@
 -- What a check tells of a tree, by what it tells of the parts.
-use Rattle.std.proofs.Common.{◌≡◌, ℕ, List, [], ◌∷◌, true, false, Option, Some, None, MatchBool, Result, Ok, Err, IfOk, IfSome, bytes_eq, codes, refl, sym, subst, inl, inr}
+use Rattle.std.proofs.Common.{◌≡◌, ℕ, List, [], ◌∷◌, Bool, true, false, Option, Some, None, MatchBool, Result, Ok, Err, IfOk, IfSome, bytes_eq, codes, refl, sym, subst, inl, inr}
 use Rattle.expr_error.specs.ErrorKind.{evaluation, pattern}
 use Rattle.expr_functions.specs.Strictness.{operator_strictness}
 use Rattle.expr_functions.specs.declared.operator.Operator.{Operator}
@@ -16,7 +16,7 @@ use Rattle.expr_kinds.specs.Narrowing.{after}
 use Rattle.expr_kinds.specs.Tables.{OperatorRow, rows, unary_kind}
 use Rattle.expr_kinds.specs.Typed.{OneOf, Unknown, Within, literal_of, ByRow, OperationGivesBy, NameStands, Typed, TypedBlock}
 
-only-failing : (e : Effect) → CoversEffect e failing → e ≡ failing
+pub only-failing : (e : Effect) → CoversEffect e failing → e ≡ failing
 only-failing total h = absurd (h evaluation tt)
 only-failing matching h = let wrong : evaluation ≡ pattern = h evaluation tt in absurd (cc wrong)
 only-failing failing h = refl
@@ -60,6 +60,9 @@ pub if-some : {A : Type 0} (o : Option A) (P Q : A → Type 0) → ((a : A) → 
 if-some (Some a) P Q f h = f a h
 if-some None P Q f h = tt
 
+pub some-of : {A : Type 0} (o : Option A) (P : A → Type 0) (x : A) → o ≡ Some x → IfSome o P → P x
+some-of o P x q h = subst (λ s. IfSome s P) q h
+
 -- names, literals and prefixes
 pub name-typed : (e : Effect) (s : Scope) (key : List ℕ) (k : Kind) → bytes_eq key (codes "$env") ≡ false → given_at s.names key ≡ Some k → Typed e s (name key) k
 name-typed e s key k q h = inl (subst (λ b. MatchBool b (k ≡ map s.environment) (NameStands s key k)) (sym q) (inl h))
@@ -71,7 +74,7 @@ pub prefix-typed : (e : Effect) (s : Scope) (op : UnaryOperator) (t : Term) → 
 prefix-typed e s op t h = inl (h, refl)
 
 -- one of a list, which it equals
-one-of : {X : Type 0} (P : X → Type 0) (x : X) (xs : List X) → OneOf (λ y. y ≡ x) xs → P x → OneOf P xs
+pub one-of : {X : Type 0} (P : X → Type 0) (x : X) (xs : List X) → OneOf (λ y. y ≡ x) xs → P x → OneOf P xs
 one-of P x [] q h = q
 one-of P x (y ∷ ys) (inl q) h = inl (subst P (sym q) h)
 one-of P x (y ∷ ys) (inr q) h = inr (one-of P x ys q h)

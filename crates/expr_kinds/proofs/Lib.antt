@@ -29,4 +29,5 @@ pub mod Rows
 pub mod Sorted
 pub mod Standing
 pub mod TableKinds
+pub mod Tabled
 pub mod Told

@@ -1,10 +1,10 @@
 -- The kinds of tables, and what a schema says of a name.
-use Rattle.std.proofs.Common.{◌≡◌, ◌≢◌, ◌⊎◌, ◌↔◌, ℕ, zero, suc, ◌<◌, Bool, true, false, cond, List, [], ◌∷◌, map as mapped, length, slice_index_or, Option, Some, None, MatchBool, bytes_eq, refl, sym, ap, ◌∙◌, subst, inl, inr, arith, rules}
+use Rattle.std.proofs.Common.{◌≡◌, ◌≢◌, ◌⊎◌, ◌↔◌, ℕ, zero, suc, ◌<◌, Bool, true, false, cond, List, [], ◌∷◌, ◌++◌, map as mapped, length, slice_index_or, Option, Some, None, MatchBool, bytes_eq, refl, sym, ap, ◌∙◌, subst, inl, inr, arith, rules}
 use Rattle.expr_value.specs.Names.{find}
 use Rattle.expr_value.specs.declared.key.Key.{Key}
 use Rattle.expr_value.specs.declared.value.Value as value
 use Rattle.expr_value.specs.declared.value.Value.{Value}
-use Rattle.expr_schema.specs.Kinds.{Kind, any, nil, array, map, keyed, nilable, Fields, others, field, HasKind, Fits, Found, Lets, StandsAt}
+use Rattle.expr_schema.specs.Kinds.{Kind, any, nil, array, map, keyed, nilable, Fields, no_others, others, field, HasKind, Fits, Found, Lets, StandsAt}
 use Rattle.expr_schema.specs.KindView.{Entry, fields_from, fields_view, kind_view, named_of, others_of, entry_view}
 use Rattle.expr_schema.specs.declared.kind.Kind as memory
 use Rattle.expr_schema.specs.declared.kind.Kind.{the_lemmas}
@@ -13,12 +13,19 @@ use Rattle.expr_schema.specs.declared.kind.FieldKind.{FieldKind, out-FieldKind, 
 use Rattle.expr_schema.proofs.Shapes.{fields_view-parts}
 use Rattle.expr_schema.proofs.Standing.{bytes_eq-symm, entry_in, entry_view-parts}
 use Rattle.expr_schema.proofs.Unions.{nil_or}
-use Rattle.expr_kinds.specs.Checks.{row_view}
+use Rattle.expr_kinds.specs.BuiltinRows.{AreFirst}
+use Rattle.expr_kinds.specs.Checks.{SameValues}
+use Rattle.expr_kinds.specs.Overloads.{Overload}
 use Rattle.expr_kinds.specs.Scopes.{at_name, given_at}
-use Rattle.expr_kinds.specs.Typed.{OneOf}
-use Rattle.expr_kinds.specs.Tables.{OperatorRow}
-use Rattle.expr_kinds.specs.declared.tables.TableRow.{TableRow}
+use Rattle.expr_kinds.specs.Typed.{AllFit, OneOf}
 use Rattle.expr_kinds.proofs.Lists.{Each-all}
+
+-- kinds that are the same
+pub same-values : (a b : Kind) → a ≡ b → SameValues a b
+same-values a b q v = (λ h. subst (λ k. HasKind k v) q h, λ h. subst (λ k. HasKind k v) (sym q) h)
+
+pub same-back : (a b c : Kind) → ((v : Value) → (HasKind b v ↔ HasKind c v)) → c ≡ a → SameValues a b
+same-back a b c both q v = (λ h. (both v).1 (subst (λ k. HasKind k v) (sym q) h), λ h. subst (λ k. HasKind k v) q ((both v).0 h))
 
 -- kinds with parts of any kind
 pub array-any : (k : Kind) → Fits (array k) (array any)
@@ -84,11 +91,33 @@ with-nil k j both a fits v h = (both v).1 (here h)
 pub same-with-nil : (k j : Kind) → ((v : Value) → (HasKind j v ↔ HasKind (nilable k) v)) → (a : Kind) → a ≡ nilable k → Fits a j
 same-with-nil k j both a q v h = (both v).1 (subst (λ i. HasKind i v) q h)
 
+-- one more kind in front of others
+pub all-more : (j : Kind) (ks : List Kind) (more : Kind) → Fits j more → AllFit ks [] more → AllFit (j ∷ ks) [] more
+all-more j [] more f h = (f, h)
+all-more j (k ∷ ks) more f h = (f, h)
+
 -- a row of a list, by its index
-pub row-among : (rows : List TableRow) (i : ℕ) (d : TableRow) → i < length rows → OneOf (λ (q : OperatorRow). q ≡ row_view (slice_index_or rows i d)) (mapped row_view rows)
-row-among [] i d h = absurd (omega (arith, h))
-row-among (r ∷ rs) zero d h = inl refl
-row-among (r ∷ rs) (suc i) d h = inr (row-among rs i d (omega (arith, h)))
+pub row-among : {R Q : Type 0} (view : R → Q) (rows : List R) (i : ℕ) (d : R) → i < length rows → OneOf (λ (q : Q). q ≡ view (slice_index_or rows i d)) (mapped view rows)
+row-among view [] i d h = absurd (omega (arith, h))
+row-among view (r ∷ rs) zero d h = inl refl
+row-among view (r ∷ rs) (suc i) d h = inr (row-among view rs i d (omega (arith, h)))
+
+-- the first rows of others are among them
+still-among : {X : Type 0} (P : X → Type 0) (xs ys : List X) → OneOf P xs → OneOf P (xs ++ ys)
+still-among P [] ys h = absurd h
+still-among P (x ∷ xs) ys (inl h) = inl h
+still-among P (x ∷ xs) ys (inr h) = inr (still-among P xs ys h)
+
+pub first-among : (P : Overload → Type 0) (some all : List Overload) → AreFirst some all → OneOf P some → OneOf P all
+first-among P some all (rest, q) h = subst (λ xs. OneOf P xs) (sym q) (still-among P some rest h)
+
+-- fields without names
+bare : (ps : List (List ℕ × Entry)) (o : Option Kind) → fields_from ps o ≡ no_others → ps ≡ []
+bare [] o q = refl
+bare (p ∷ ps) o q = absurd (cc q)
+
+pub none-named : (f : memory_fields.Fields) → fields_view f ≡ no_others → named_of f ≡ []
+none-named f q = bare (named_of f) (others_of f) (sym (fields_view-parts f) ∙ q)
 
 -- the kind of a name that is required
 given-entry : (ps : List (List ℕ × Entry)) (o : Option Kind) (n : List ℕ) (s : Entry) → find n ps ≡ Some s → given_at (fields_from ps o) n ≡ cond s.required (Some s.kind) None

@@ -1,5 +1,7 @@
 -- What is told of a tree holds, if what is told of its parts does.
-use Rattle.std.proofs.Common.{◌≡◌, ℕ, ◌+◌, ◌<◌, List, [], ◌∷◌, ◌++◌, map as mapped, length, get_or, drop, Bool, true, false, cond, Some, bytes_eq, codes, refl, sym, ap, ◌∙◌, subst, inl, inr}
+use Rattle.std.proofs.Common.{◌≡◌, ℕ, ◌+◌, ◌<◌, List, [], ◌∷◌, ◌++◌, map as mapped, length, get_or, drop, Bool, true, false, cond, Option, Some, bytes_eq, codes, refl, sym, ap, ◌∙◌, subst, inl, inr}
+use Rattle.std.specs.Borrow.{Bor}
+use Rattle.std.specs.Option.{option_copied}
 use Rattle.std.proofs.lemmas.List.{drop_more}
 use Rattle.expr_functions.specs.Strictness.{operator_strictness}
 use Rattle.expr_functions.specs.declared.operator.Operator.{Operator}
@@ -13,13 +15,13 @@ use Rattle.expr_schema.specs.Kinds.{Kind, any, bool, integer, string, bytes, arr
 use Rattle.expr_schema.specs.SchemaView.{effect_of}
 use Rattle.expr_schema.specs.declared.kind.Kind as memory
 use Rattle.expr_schema.specs.Scopes.{Scope}
-use Rattle.expr_kinds.specs.Causes.{Literals, effect_under}
-use Rattle.expr_kinds.specs.Checks.{Checks, ChecksBlock, Upholds, PartFits, SideFits, with_bound}
+use Rattle.expr_kinds.specs.Causes.{Cause, Literals, effect_under}
+use Rattle.expr_kinds.specs.Checks.{Checks, ChecksBlock, Upholds, PartFits, SideFits, literals_view, with_bound}
 use Rattle.expr_kinds.specs.Effects.{CoversEffect}
 use Rattle.expr_kinds.specs.Narrowing.{after, assuming}
 use Rattle.expr_kinds.specs.Scopes.{at_name, bind_kind, given_at}
 use Rattle.expr_kinds.specs.Tables.{OperatorRow, rows, unary_kind}
-use Rattle.expr_kinds.specs.Typed.{OneOf, Within, Typed, TypedBlock}
+use Rattle.expr_kinds.specs.Typed.{OneOf, Within, Typed, TypedBlock, literal_of}
 use Rattle.expr_kinds.specs.declared.checked.Checked.{Checked}
 use Rattle.expr_kinds.specs.declared.names.BoundKind.{BoundKind}
 use Rattle.expr_kinds.proofs.Composed.{range-typed, choice-typed, ternary-typed, coalesce-typed, field-typed, item-typed, byte-typed, entry-typed, optional-field-typed, optional-literal-typed, optional-typed}
@@ -54,6 +56,10 @@ told-prefix operand op b k same fits into s t h e covers =
     let inner : Within (λ a. Typed e s t a) b = within-fits (λ a. Typed e s t a) (kind_view operand.kind) b (h e covers) fits in
     (unary_kind op, prefix-typed e s op t (subst (λ j. Within (λ a. Typed e s t a) j) same inner), λ v i. into v (subst (λ j. HasKind j v) (sym same) i))
 
+-- the errors of a cause, where some operands or arguments are literals
+pub covers-cause : (f own : Effect) (cause : Cause) (told known : Literals) → own ≡ effect_under cause told → told ≡ known → CoversEffect f own → CoversEffect f (effect_under cause known)
+covers-cause f own cause told known is same covers = subst (λ ls. CoversEffect f (effect_under cause ls)) same (subst (λ g. CoversEffect f g) is covers)
+
 -- an operator between its operands
 module _ (left right : Checked) (f : Effect) (op : Operator) (s : Scope) (l r : Term) where
   pub told-and : operator_strictness op ≡ EndsAtFalse → SideFits left bool f → SideFits right bool f → (k : Kind) → Fits bool k → Checks left s l → Checks right (after (operator_strictness op) l s) r → (e : Effect) → CoversEffect e f → Within (λ a. Typed e s (operation op l r) a) k
@@ -67,10 +73,10 @@ module _ (left right : Checked) (f : Effect) (op : Operator) (s : Scope) (l r : 
       let sides = covers-through e g f covers gf in
       (bool, match-typed e s op l r q (covers-through e g matching covers gm) (side-within left f e sides s l string fl hl) (side-within right f e sides (after (operator_strictness op) l s) r string fr hr), into)
 
-  pub told-row : (row : OperatorRow) → operator_strictness op ≡ Both → OneOf (λ q. q ≡ row) (rows op) → Fits (kind_view left.kind) row.left → Fits (kind_view right.kind) row.right → CoversEffect f (effect_of left.effect) → CoversEffect f (effect_of right.effect) → ((known : Literals) → CoversEffect f (effect_under row.cause known))
+  pub told-row : (row : OperatorRow) → operator_strictness op ≡ Both → OneOf (λ q. q ≡ row) (rows op) → Fits (kind_view left.kind) row.left → Fits (kind_view right.kind) row.right → CoversEffect f (effect_of left.effect) → CoversEffect f (effect_of right.effect) → CoversEffect f (effect_under row.cause (literal_of l ∷ literal_of r ∷ []))
       → (k : Kind) → Fits row.gives k → Checks left s l → Checks right s r → (e : Effect) → CoversEffect e f → Within (λ a. Typed e s (operation op l r) a) k
   told-row row q among fl fr cl cr own k into hl hr e covers =
-      (row.gives, row-typed e s op l r q row among (covers-through e f (effect_under row.cause _) covers (own _)) (side-within left f e covers s l row.left (fl, cl) hl) (side-within right f e covers s r row.right (fr, cr) hr), into)
+      (row.gives, row-typed e s op l r q row among (covers-through e f (effect_under row.cause (literal_of l ∷ literal_of r ∷ [])) covers own) (side-within left f e covers s l row.left (fl, cl) hl) (side-within right f e covers s r row.right (fr, cr) hr), into)
 
 -- ranges
 pub told-range : (first last : Checked) (f : Effect) → SideFits first integer f → SideFits last integer f → (k : Kind) → Fits (array integer) k → (s : Scope) (a b : Term) → Checks first s a → Checks last s b → (e : Effect) → CoversEffect e f → Within (λ j. Typed e s (range a b) j) k
@@ -143,6 +149,10 @@ drop-at xs i x is below = drop_more xs i x below ∙ ap (λ y. y ∷ drop (i + 1
 pub pushed : (xs : List memory.Kind) (k : memory.Kind) (ks : List Kind) → mapped kind_view (xs ++ k ∷ []) ++ ks ≡ mapped kind_view xs ++ (kind_view k ∷ ks)
 pushed [] k ks = refl
 pushed (x ∷ xs) k ks = ap (λ ys. kind_view x ∷ ys) (pushed xs k ks)
+
+pub known-pushed : (xs : List (Option (Bor Value))) (x : Option (Bor Value)) (o : Option Value) (os : Literals) → option_copied x ≡ o → literals_view (xs ++ x ∷ []) ++ os ≡ literals_view xs ++ (o ∷ os)
+known-pushed [] x o os q = ap (λ y. y ∷ os) q
+known-pushed (y ∷ xs) x o os q = ap (λ ys. option_copied y ∷ ys) (known-pushed xs x o os q)
 
 -- names that are bound one after the other
 pub bound-last : (bs : List BoundKind) (b : BoundKind) (s : Scope) → with_bound (bs ++ b ∷ []) s ≡ bind_kind b.name.now (kind_view b.kind) (with_bound bs s)

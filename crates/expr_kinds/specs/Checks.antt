@@ -1,15 +1,19 @@
 -- What a check says of a tree.
-use Rattle.std.specs.Prelude.{◌≡◌, ◌⊎◌, ℕ, true, List, [], ◌∷◌, Some, map as each}
-use Rattle.expr_tree.specs.Term.{Block, Postfix, Term, Terms, postfix}
+use Rattle.std.specs.Prelude.{◌≡◌, ◌⊎◌, ◌↔◌, ℕ, true, List, [], ◌∷◌, Option, Some, map as each}
+use Rattle.std.specs.Borrow.{Bor}
+use Rattle.std.specs.Option.{option_copied}
+use Rattle.expr_meaning.specs.Allows.{is_given}
+use Rattle.expr_tree.specs.Term.{Block, Bound, Postfix, Predicate, Term, Terms, postfix}
+use Rattle.expr_value.specs.declared.value.Value.{Value}
 use Rattle.expr_schema.specs.KindView.{kind_view}
-use Rattle.expr_schema.specs.Kinds.{Kind, any, never, nil, bool, integer, string, bytes, duration, month, weekday, datetime, timezone, array, map, keyed, nilable, others, Fits, Effect}
+use Rattle.expr_schema.specs.Kinds.{Kind, any, never, nil, bool, integer, string, bytes, duration, month, weekday, datetime, timezone, array, map, keyed, nilable, Fields, others, Fits, HasKind, Effect}
 use Rattle.expr_schema.specs.SchemaView.{effect_of, scope_of}
 use Rattle.expr_schema.specs.Scopes.{Scope}
 use Rattle.expr_kinds.specs.Causes as cause
 use Rattle.expr_kinds.specs.Effects.{CoversEffect}
 use Rattle.expr_kinds.specs.Scopes.{bind_kind, given_at, is_absent}
 use Rattle.expr_kinds.specs.Tables.{OperatorRow}
-use Rattle.expr_kinds.specs.Typed.{Typed, TypedBlock, TypedEach, Within}
+use Rattle.expr_kinds.specs.Typed.{CallGives, Typed, TypedBlock, TypedBound, TypedEach, TypedPredicate, Unknown, Within, literal_of, literals_of}
 use Rattle.expr_kinds.specs.declared.checked.CheckedArguments.{CheckedArguments}
 use Rattle.expr_kinds.specs.declared.checked.Checked.{Checked}
 use Rattle.expr_kinds.specs.declared.names.BoundKind.{BoundKind}
@@ -49,9 +53,20 @@ ChecksIn known c t = (s : Scope) → Upholds known s → Checks c s t
 abbrev pub ChecksBlockIn : Scope → Checked → Block → Type 0
 ChecksBlockIn known c b = (s : Scope) → Upholds known s → ChecksBlock c s b
 
--- the same of an operator after an operand
-abbrev pub ChecksPostfix : Scope → Checked → Checked → Postfix → Type 0
-ChecksPostfix known operand c p = (s : Scope) (t : Term) → Upholds known s → Checks operand s t → Checks c s (postfix p t)
+-- the same of an operator after an operand, which may be a literal
+abbrev pub ChecksPostfix : Scope → Checked → Option Value → Checked → Postfix → Type 0
+ChecksPostfix known operand literal c p = (s : Scope) (t : Term) → Upholds known s → literal ≡ literal_of t → Checks operand s t → Checks c s (postfix p t)
+
+-- the same of a bound of a slice, if it is told to be an integer
+abbrev pub ChecksBound : Checked → Scope → Bound → Type 0
+ChecksBound c s b = (e : Effect) → CoversEffect e (effect_of c.effect) → Fits (kind_view c.kind) integer → TypedBound e s b
+
+abbrev pub ChecksBoundIn : Scope → Checked → Bound → Type 0
+ChecksBoundIn known c b = (s : Scope) → Upholds known s → ChecksBound c s b
+
+-- the slices of an array, a string or bytes are of the same kind
+abbrev pub KeepsKind : Kind → Type 0
+KeepsKind k = ((item : Kind) × (k ≡ array item)) ⊎ ((k ≡ string) ⊎ (k ≡ bytes))
 
 -- A part of a value is nil or of a kind: an item at an integer, a byte at an integer, or the value of a key.
 abbrev pub PartFits : Kind → Kind → Kind → Type 0
@@ -60,9 +75,20 @@ PartFits a key k =
     ⊎ ((Fits a bytes × Fits key integer × Fits (nilable integer) k)
     ⊎ ((item : Kind) × Fits a (keyed item) × Fits (nilable item) k))
 
--- the same of the arguments of a call, each of a kind that fits the one at its place
+-- the literals in memory
+abbrev pub literals_view : List (Option (Bor Value)) → cause.Literals
+literals_view = each option_copied
+
+-- the same of the arguments of a call, each of a kind that fits the one at its place, and of the literals among them
 abbrev pub ChecksEach : CheckedArguments → Scope → Terms → Type 0
-ChecksEach a s ts = (e : Effect) → CoversEffect e (effect_of a.effect) → TypedEach e s ts (each kind_view a.kinds)
+ChecksEach a s ts = (literals_view a.literals ≡ literals_of ts) × ((e : Effect) → CoversEffect e (effect_of a.effect) → TypedEach e s ts (each kind_view a.kinds))
+
+-- what a check tells of a call with these arguments and a predicate, if it has one
+abbrev pub TellsCall : CheckedArguments → Scope → List ℕ → Predicate → Checked → Type 0
+TellsCall a s key p c =
+    (e : Effect) → CoversEffect e (effect_of c.effect)
+    → CoversEffect e (effect_of a.effect)
+    × Within (λ k. CallGives e s key (literals_view a.literals) (each kind_view a.kinds) (is_given p) (λ inside item answer. TypedPredicate e inside item p answer) k ⊎ Unknown e k) (kind_view c.kind)
 
 abbrev pub ChecksEachIn : Scope → CheckedArguments → Terms → Type 0
 ChecksEachIn known a ts = (s : Scope) → Upholds known s → ChecksEach a s ts
@@ -78,6 +104,10 @@ with_bound (b ∷ bs) s = with_bound bs (bind_kind b.name.now (kind_view b.kind)
 
 abbrev pub known_scope : Known → Scope
 known_scope k = with_bound k.bound.items (scope_of k.schema.now)
+
+-- two kinds have the same values
+abbrev pub SameValues : Kind → Kind → Type 0
+SameValues a b = (v : Value) → HasKind a v ↔ HasKind b v
 
 -- the rows of the tables in memory
 abbrev pub base_kind : Base → Kind

@@ -1,3 +1,4 @@
+pub mod BuiltinRows
 pub mod Causes
 pub mod Checks
 pub mod Effects

@@ -12,10 +12,10 @@ use Rattle.expr_schema.specs.Kinds.{Kind, bool, integer, string, duration, month
 use Rattle.expr_schema.specs.Scopes.{Signature}
 
 -- a method with these arguments, which never fails, and one that may
-abbrev method : List Kind → Kind → Signature
+abbrev pub method : List Kind → Kind → Signature
 method arguments gives = record { arguments = arguments; gives = gives; effect = total }
 
-abbrev failing_method : List Kind → Kind → Signature
+abbrev pub failing_method : List Kind → Kind → Signature
 failing_method arguments gives = record { arguments = arguments; gives = gives; effect = failing }
 
 -- the methods of durations

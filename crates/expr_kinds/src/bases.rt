@@ -4,10 +4,10 @@ ghost use Rattle.expr_error.specs.ErrorKind.{OnlyMemory};
 ghost use Rattle.expr_kinds.specs.Checks.{base_kind, row_view, side_kind};
 ghost use Rattle.expr_kinds.specs.Typed.{OneOf};
 ghost use Rattle.expr_schema.specs.KindView.{kind_view};
-ghost use Rattle.expr_schema.specs.Kinds.{Fits};
+ghost use Rattle.expr_schema.specs.Kinds.{Fits, map as map_of, others};
 
 use crate::tables::{Base, Side, TableRow};
-use expr_schema::Kind;
+use expr_schema::{Fields, Kind};
 use expr_value::Result;
 use std::alloc::Global;
 
@@ -76,9 +76,9 @@ pub(crate) fn fitting_row(left: &Kind, right: &Kind, rows: &[TableRow]) -> Optio
     None
 }
 
-/// A kind in memory that has all values of a kind of the tables.
+/// A kind of the tables in memory.
 pub(crate) fn kind_of_base(alloc: Global, base: Base) -> Result<Kind>
-    ensures ok { IfOk result (λ k. Fits (base_kind base) (kind_view k)) }
+    ensures ok { IfOk result (λ k. kind_view k ≡ base_kind base) }
     ensures err { OnlyMemory result }
 {
     match base {
@@ -101,6 +101,20 @@ pub(crate) fn kind_of_base(alloc: Global, base: Base) -> Result<Kind>
             let map = Kind::keyed_map(alloc, Kind::Any)?;
             Ok(map)
         }
-        Base::Any | Base::Map => Ok(Kind::Any),
+        Base::Map => {
+            let map = named_kind(alloc, Kind::Any)?;
+            Ok(map)
+        }
+        Base::Any => Ok(Kind::Any),
     }
+}
+
+/// A map with names as keys, each of whose values is of a kind.
+pub(crate) fn named_kind(alloc: Global, kind: Kind) -> Result<Kind>
+    ensures ok { IfOk result (λ k. kind_view k ≡ map_of (others (kind_view kind))) }
+    ensures err { OnlyMemory result }
+{
+    let mut fields = Fields::new(alloc);
+    fields.open(alloc, kind)?;
+    Ok(Kind::Map(fields))
 }

@@ -1,47 +1,51 @@
-//! The check of calls of a host's functions, by their signatures.
+//! The check of calls: of a host's functions by their signatures, and of built-ins.
 ghost use Rattle.std.specs.Prelude.{◌≡◌, ℕ, List, Some, IfOk, IsTrue, map};
 ghost use Rattle.expr_error.specs.ErrorKind.{OnlyMemory};
-ghost use Rattle.expr_kinds.specs.Checks.{Checks, ChecksEach, Upholds, known_scope};
+ghost use Rattle.expr_kinds.specs.Checks.{TellsCall, Upholds, known_scope};
 ghost use Rattle.expr_kinds.specs.Typed.{AllFit};
 ghost use Rattle.expr_schema.specs.KindView.{kind_view};
 ghost use Rattle.expr_schema.specs.Kinds.{never};
 ghost use Rattle.expr_schema.specs.SchemaView.{signature_of};
 ghost use Rattle.expr_schema.specs.Scopes.{Scope};
-ghost use Rattle.expr_tree.specs.Term.{Predicate, Terms, call};
+ghost use Rattle.expr_tree.specs.Term.{Predicate};
 
+use crate::builtins::builtin_checked;
 use crate::checked::{Checked, CheckedArguments, joined_effect};
 use crate::names::Known;
+use expr_functions::Builtin;
 use expr_schema::{Kind, Signature, fits};
 use expr_value::Result;
 use std::alloc::Global;
 
-/// What is known of a call. Of built-ins nothing is.
+/// What is known of a call. A function of the host comes before a built-in. Of built-ins with a predicate nothing is
+/// known.
 pub(crate) fn call_checked(
     alloc: Global,
     key: &str,
-    arguments: &CheckedArguments,
+    arguments: &CheckedArguments<'_>,
     known: &Known<'_>,
 ) -> Result<Checked>
-    ensures ok { IfOk result (λ c. (s : Scope) (ts : Terms) (p : Predicate)
-        → Upholds (known_scope known.now) s → ChecksEach arguments.now s ts
-        → Checks c s (call key.now ts p)) }
+    ensures ok { IfOk result (λ c. (s : Scope) (p : Predicate) → Upholds (known_scope known.now) s
+        → TellsCall arguments.now s key.now p c) }
     ensures err { OnlyMemory result }
 {
     match known.schema.signature(key) {
         Some(signature) => signed_checked(alloc, arguments, signature),
-        None => Ok(Checked::unknown()),
+        None => match Builtin::from_name(key) {
+            Some(Builtin::OnValues(call)) => builtin_checked(alloc, call, arguments),
+            _ => Ok(Checked::unknown()),
+        },
     }
 }
 
 /// What is known of a call of a function with a signature.
 fn signed_checked(
     alloc: Global,
-    arguments: &CheckedArguments,
+    arguments: &CheckedArguments<'_>,
     signature: &Signature,
 ) -> Result<Checked>
-    ensures ok { IfOk result (λ c. (s : Scope) (key : List ℕ) (ts : Terms) (p : Predicate)
-        → s.functions key ≡ Some (signature_of signature.now) → ChecksEach arguments.now s ts
-        → Checks c s (call key ts p)) }
+    ensures ok { IfOk result (λ c. (s : Scope) (key : List ℕ) (p : Predicate)
+        → s.functions key ≡ Some (signature_of signature.now) → TellsCall arguments.now s key p c) }
     ensures err { OnlyMemory result }
 {
     if !all_fit(arguments.kinds.as_slice(), signature.arguments.as_slice()) {

@@ -1,25 +1,30 @@
 //! The check of a program: the kind of what it returns, and which errors may come.
-ghost use Rattle.std.specs.Prelude.{◌≡◌, IfOk, map};
+ghost use Rattle.std.specs.Prelude.{IfOk, map};
+ghost use Rattle.std.specs.Option.{option_copied};
 ghost use Rattle.expr_error.specs.ErrorKind.{OnlyMemory};
-ghost use Rattle.expr_kinds.specs.Checks.{Checks, ChecksBlock, ChecksBlockIn, ChecksEachIn, ChecksIn, ChecksPostfix, known_scope};
+ghost use Rattle.expr_kinds.specs.Checks.{Checks, ChecksBlock, ChecksBlockIn, ChecksBoundIn, ChecksEachIn, ChecksIn, ChecksPostfix, known_scope};
 ghost use Rattle.expr_schema.specs.SchemaView.{scope_of};
-ghost use Rattle.expr_tree.specs.Term.{list, mapping, name, term_pairs};
-ghost use Rattle.expr_tree.specs.TermOf.{line_term, postfix_term, program_term, term_of, terms_of};
+ghost use Rattle.expr_tree.specs.Term.{list, mapping, name, pipe, term_pairs};
+ghost use Rattle.expr_tree.specs.TermOf.{bound_term, line_term, postfix_term, program_term, term_of, terms_of};
 
 use crate::calls::call_checked;
-use crate::checked::{Checked, CheckedArguments, joined_effect};
-use crate::forms::{choice_checked, coalesce_checked, literal_checked, range_checked};
+use crate::checked::{Checked, CheckedArguments, joined_effect, with_first};
+use crate::forms::{
+    choice_checked, coalesce_checked, literal_checked, range_checked, slice_checked,
+};
+use crate::known_literals::literal_value;
 use crate::members::{literal_name, member_checked, part_checked};
+use crate::methods::method_checked;
 use crate::names::Known;
 use crate::operations::{operation_checked, prefix_checked};
 use expr_schema::{Effect, FieldKind, Fields, Kind, Schema, join};
 use expr_tree::node::{Node, PostfixOperator, Program};
-use expr_value::{Items, Result, Text};
+use expr_value::{Items, Result, Text, Value};
 use std::alloc::Global;
 
 /// The kind of what a program returns, and which errors may come, in each context and host that keep to a schema.
 ///
-/// Of built-ins, methods and slices nothing is known: they return a value of any kind, or fail.
+/// Of built-ins with a predicate nothing is known: they return a value of any kind, or fail.
 /// No clause says that the kind has few other values, nor that an error that may come does come.
 pub fn check(alloc: Global, program: &Program, schema: &Schema) -> Result<Checked>
     ensures ok { IfOk result (λ c. ChecksBlock c (scope_of schema.now) (program_term program.now)) }
@@ -91,11 +96,12 @@ fn node_checked(alloc: Global, node: &Node, known: &Known<'_>) -> Result<Checked
         } => {
             let first = node_checked(alloc, left, known)?;
             let second = node_checked(alloc, right, known)?;
-            operation_checked(alloc, *operator, &first, &second)
+            let literals = [literal_value(left), literal_value(right)];
+            operation_checked(alloc, *operator, &first, &second, &literals)
         }
         Node::Postfix { operator, node } => {
             let operand = node_checked(alloc, node, known)?;
-            postfix_checked(alloc, operator, &operand, known)
+            postfix_checked(alloc, operator, &operand, literal_value(node), known)
         }
         Node::Conditional {
             condition,
@@ -115,16 +121,17 @@ fn node_checked(alloc: Global, node: &Node, known: &Known<'_>) -> Result<Checked
     }
 }
 
-/// What is known of an operator after an operand.
+/// What is known of an operator after an operand, which may be a literal.
 #[cycle(check)]
 fn postfix_checked(
     alloc: Global,
     operator: &PostfixOperator,
     operand: &Checked,
+    literal: Option<&Value>,
     known: &Known<'_>,
 ) -> Result<Checked>
-    ensures ok { IfOk result (λ c. ChecksPostfix (known_scope known.now) operand.now c
-        (postfix_term operator.now)) }
+    ensures ok { IfOk result (λ c. ChecksPostfix (known_scope known.now) operand.now
+        (option_copied literal.entry) c (postfix_term operator.now)) }
     ensures err { OnlyMemory result }
 {
     match operator {
@@ -144,8 +151,54 @@ fn postfix_checked(
             let second = node_checked(alloc, right, known)?;
             choice_checked(alloc, operand, &first, &second)
         }
-        PostfixOperator::Range { .. } | PostfixOperator::Pipe(_) => Ok(Checked::unknown()),
-        PostfixOperator::Method { .. } => Ok(Checked::unknown()),
+        PostfixOperator::Range { start, end } => {
+            let first = bound_checked(alloc, start, known)?;
+            let last = bound_checked(alloc, end, known)?;
+            slice_checked(alloc, operand, &first, &last)
+        }
+        PostfixOperator::Pipe(target) => piped_checked(alloc, target, operand, literal, known),
+        PostfixOperator::Method { ident, args } => {
+            let arguments = arguments_checked(alloc, args, known)?;
+            method_checked(alloc, operand, ident, &arguments)
+        }
+    }
+}
+
+/// What is known of a bound of a slice. One that is missing never fails.
+#[cycle(check)]
+fn bound_checked(alloc: Global, bound: &Option<Box<Node>>, known: &Known<'_>) -> Result<Checked>
+    ensures ok { IfOk result (λ c. ChecksBoundIn (known_scope known.now) c (bound_term bound.now)) }
+    ensures err { OnlyMemory result }
+{
+    match bound {
+        Some(node) => node_checked(alloc, node, known),
+        None => Ok(Checked {
+            kind: Kind::Integer,
+            effect: Effect::Total,
+        }),
+    }
+}
+
+/// What is known of a pipe from an operand into a call, whose first argument is the operand.
+#[cycle(check)]
+fn piped_checked(
+    alloc: Global,
+    target: &Node,
+    operand: &Checked,
+    literal: Option<&Value>,
+    known: &Known<'_>,
+) -> Result<Checked>
+    ensures ok { IfOk result (λ c. ChecksPostfix (known_scope known.now) operand.now
+        (option_copied literal.entry) c (pipe (term_of target.now))) }
+    ensures err { OnlyMemory result }
+{
+    match target {
+        Node::Func { ident, args, .. } => {
+            let rest = arguments_checked(alloc, args, known)?;
+            let arguments = with_first(alloc, operand, literal, rest)?;
+            call_checked(alloc, ident, &arguments, known)
+        }
+        _ => Ok(Checked::unknown()),
     }
 }
 
@@ -192,21 +245,28 @@ fn map_checked(alloc: Global, pairs: &[(String, Node)], known: &Known<'_>) -> Re
 
 /// What is known of the arguments of a call.
 #[cycle(check)]
-fn arguments_checked(alloc: Global, nodes: &[Node], known: &Known<'_>) -> Result<CheckedArguments>
+fn arguments_checked<'n>(
+    alloc: Global,
+    nodes: &'n [Node],
+    known: &Known<'_>,
+) -> Result<CheckedArguments<'n>>
     ensures ok { IfOk result
         (λ a. ChecksEachIn (known_scope known.now) a (terms_of (map term_of nodes.now))) }
     ensures err { OnlyMemory result }
 {
     let mut kinds = Vec::new(alloc);
+    let mut literals = Vec::new(alloc);
     let mut effect = Effect::Total;
     for node in nodes {
         let checked = node_checked(alloc, node, known)?;
         effect = joined_effect(effect, checked.effect);
         let Checked { kind, effect: _ } = checked;
         kinds.push(kind)?;
+        literals.push(literal_value(node))?;
     }
     Ok(CheckedArguments {
         kinds: Items::from_vec(kinds),
+        literals: Items::from_vec(literals),
         effect,
     })
 }

@@ -1,10 +1,11 @@
 //! The check of literals, ranges, conditionals and `??`, by what is known of their parts.
-ghost use Rattle.std.specs.Prelude.{◌≡◌, IfOk, true, false};
+ghost use Rattle.std.specs.Prelude.{IfOk, IsTrue, true, false};
 ghost use Rattle.expr_error.specs.ErrorKind.{OnlyMemory};
-ghost use Rattle.expr_kinds.specs.Checks.{Checks, ChecksBlock};
+ghost use Rattle.expr_kinds.specs.Checks.{Checks, ChecksBlock, ChecksBound, KeepsKind};
 ghost use Rattle.expr_kinds.specs.Narrowing.{assuming};
+ghost use Rattle.expr_schema.specs.KindView.{kind_view};
 ghost use Rattle.expr_schema.specs.Scopes.{Scope};
-ghost use Rattle.expr_tree.specs.Term.{Block, Term, choice, coalesce, literal, postfix, range, ternary};
+ghost use Rattle.expr_tree.specs.Term.{Block, Bound, Term, choice, coalesce, literal, postfix, range, slice, ternary};
 
 use crate::bases::fits_base;
 use crate::checked::{Checked, joined_effect};
@@ -75,4 +76,40 @@ pub(crate) fn coalesce_checked(alloc: Global, operand: &Checked, other: &Checked
     let kind = join(alloc, core, &other.kind)?;
     let effect = joined_effect(operand.effect, other.effect);
     Ok(Checked { kind, effect })
+}
+
+/// What is known of a slice, by what is known of its bounds: it is of the kind of its operand.
+pub(crate) fn slice_checked(
+    alloc: Global,
+    operand: &Checked,
+    start: &Checked,
+    stop: &Checked,
+) -> Result<Checked>
+    ensures ok { IfOk result (λ c. (s : Scope) (t : Term) (a b : Bound) → Checks operand.now s t
+        → ChecksBound start.now s a → ChecksBound stop.now s b → Checks c s (postfix (slice a b) t)) }
+    ensures err { OnlyMemory result }
+{
+    if !keeps_kind(&operand.kind) {
+        return Ok(Checked::unknown());
+    }
+    match sides_effect(Base::Integer, start, stop) {
+        Some(bounds) => {
+            let kind = operand.kind.copy(alloc)?;
+            let effect = joined_effect(operand.effect, bounds);
+            Ok(Checked { kind, effect })
+        }
+        None => Ok(Checked::unknown()),
+    }
+}
+
+/// Whether a slice of a value of a kind is of that kind.
+fn keeps_kind(kind: &Kind) -> bool
+    ensures { IsTrue result → KeepsKind (kind_view kind.now) }
+{
+    match kind {
+        Kind::Array(_) => true,
+        Kind::String => true,
+        Kind::Bytes => true,
+        _ => false,
+    }
 }

@@ -11,19 +11,24 @@
 //!   and `specs/Causes.antt` which literals exclude an error.
 //! - `specs/Tables.antt`, `specs/Overloads.antt` and `specs/Methods.antt` are the tables of operators, built-ins and
 //!   methods. Each of their rows is proved.
-//! - `check` finds a kind of a program. `specs/Checks.antt` says what it tells, and `src/tables.rt` has the operators'
-//!   table in code.
+//! - `check` finds a kind of a program. `specs/Checks.antt` says what it tells. `src/tables.rt`, `src/call_rows.rt` and
+//!   `src/methods.rt` have the tables in code, and `specs/BuiltinRows.antt` says what their rows stand for.
 #![tactic(auto)]
 
 mod bases;
+mod builtins;
+mod call_rows;
 mod calls;
 mod checked;
 mod checking;
 mod forms;
+mod known_literals;
 mod laws;
 mod members;
+mod methods;
 mod names;
 mod operations;
+mod shapes;
 mod tables;
 
 pub use checked::Checked;

@@ -1,21 +1,23 @@
 //! The check of operators before an operand and between two.
-ghost use Rattle.std.specs.Prelude.{◌≡◌, IfOk, IfSome};
+ghost use Rattle.std.specs.Prelude.{◌≡◌, ◌∷◌, [], IfOk, IfSome};
 ghost use Rattle.expr_error.specs.ErrorKind.{OnlyMemory};
 ghost use Rattle.expr_functions.specs.Strictness.{operator_strictness};
 ghost use Rattle.expr_functions.specs.declared.strictness.Strictness.TheVariants.{Both};
-ghost use Rattle.expr_kinds.specs.Checks.{Checks, SideFits, base_kind};
+ghost use Rattle.expr_kinds.specs.Checks.{Checks, SideFits, base_kind, literals_view};
 ghost use Rattle.expr_kinds.specs.Narrowing.{after};
+ghost use Rattle.expr_kinds.specs.Typed.{literal_of};
 ghost use Rattle.expr_schema.specs.SchemaView.{effect_of};
 ghost use Rattle.expr_schema.specs.Scopes.{Scope};
 ghost use Rattle.expr_tree.specs.Term.{Term, operation, unary};
 
 use crate::bases::{fits_base, fitting_row, kind_of_base};
-use crate::checked::{Checked, cause_effect, joined_effect};
+use crate::checked::{Checked, joined_effect};
+use crate::known_literals::cause_effect;
 use crate::tables::{Base, rows_of, taken_by};
 use expr_functions::operator::{Operator, UnaryOperator};
 use expr_functions::{Strictness, strictness_of};
 use expr_schema::{Effect, Kind};
-use expr_value::Result;
+use expr_value::{Result, Value};
 use std::alloc::Global;
 
 /// What is known of an operator before its operand.
@@ -39,20 +41,22 @@ pub(crate) fn prefix_checked(
     })
 }
 
-/// What is known of an operator between its operands.
+/// What is known of an operator between its operands, each of which may be a literal.
 pub(crate) fn operation_checked(
     alloc: Global,
     operator: Operator,
     left: &Checked,
     right: &Checked,
+    literals: &[Option<&Value>],
 ) -> Result<Checked>
-    ensures ok { IfOk result (λ c. (s : Scope) (l r : Term) → Checks left.now s l
+    ensures ok { IfOk result (λ c. (s : Scope) (l r : Term)
+        → literals_view literals.now ≡ literal_of l ∷ literal_of r ∷ [] → Checks left.now s l
         → Checks right.now (after (operator_strictness operator) l s) r
         → Checks c s (operation operator l r)) }
     ensures err { OnlyMemory result }
 {
     match strictness_of(operator) {
-        Strictness::Both => row_checked(alloc, operator, left, right),
+        Strictness::Both => row_checked(alloc, operator, left, right, literals),
         Strictness::EndsAtFalse => match sides_effect(Base::Bool, left, right) {
             Some(effect) => Ok(Checked {
                 kind: Kind::Bool,
@@ -97,9 +101,11 @@ fn row_checked(
     operator: Operator,
     left: &Checked,
     right: &Checked,
+    literals: &[Option<&Value>],
 ) -> Result<Checked>
-    ensures ok { operator_strictness operator ≡ Both
-        → IfOk result (λ c. (s : Scope) (l r : Term) → Checks left.now s l → Checks right.now s r
+    ensures ok { operator_strictness operator ≡ Both → IfOk result (λ c. (s : Scope) (l r : Term)
+        → literals_view literals.now ≡ literal_of l ∷ literal_of r ∷ []
+        → Checks left.now s l → Checks right.now s r
         → Checks c s (operation operator l r)) }
     ensures err { OnlyMemory result }
 {
@@ -107,7 +113,7 @@ fn row_checked(
         Some(row) => {
             let kind = kind_of_base(alloc, row.gives)?;
             let sides = joined_effect(left.effect, right.effect);
-            let own = cause_effect(row.cause);
+            let own = cause_effect(row.cause, literals);
             let effect = joined_effect(sides, own);
             Ok(Checked { kind, effect })
         }

@@ -48,12 +48,12 @@ returns-in_ok-code-in-Answered g c =
     let read = subst (λ o. IsCompiledLimited text limits (Ok o)) c.in-Answered.is c.in_ok-compiled.ensures.answer in
     let code = c.in_ok-code-in-Answered.ensures.code in
     let r = c.execute_limited_with.result in
-    let ran = c.execute_limited_with.ensures.outcome in
+    let ran = c.execute_limited_with.ensures.code.outcome in
     let ends : EndsText world text limits r = text_ends world text limits b _ read.0 read.1 code r ran in
     record {
       outcome = ends;
       answer = text_answers world text limits r ends;
-      depth = c.execute_limited_with.ensures.depth;
+      depth = c.execute_limited_with.ensures.code.depth;
       place = run_place world text limits b _ read.0 read.1 code r ran;
       boundary = run_boundary world text limits b _ read.0 read.1 code r ran;
     }

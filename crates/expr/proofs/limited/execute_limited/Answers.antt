@@ -14,10 +14,10 @@ returns-clause-code g c =
     let base : ContextView = asked.context c.args.ctx.now.1 in
     let blocks : List (List Op) = blocks_of g.L.Pointer.held (λ n. string_bytes (g.N.Pointer.held n)) c.args.code.now in
     record {
-      outcome = c.execute_limited_with.ensures.outcome;
-      answer = code_answers (world_of no_host base) blocks c.args.limits.now c.execute_limited_with.result c.execute_limited_with.ensures.outcome;
-      depth = c.execute_limited_with.ensures.depth;
-      pattern = c.execute_limited_with.ensures.pattern;
+      outcome = c.execute_limited_with.ensures.code.outcome;
+      answer = code_answers (world_of no_host base) blocks c.args.limits.now c.execute_limited_with.result c.execute_limited_with.ensures.code.outcome;
+      depth = c.execute_limited_with.ensures.code.depth;
+      pattern = c.execute_limited_with.ensures.code.pattern;
     }
 
 pub returns-clause-never : goal.returns-clause-never

@@ -1,7 +1,7 @@
-use Rattle.std.proofs.Common.{sym, ap, ◌∙◌}
-use Rattle.expr_tree.specs.Term.{call}
+use Rattle.std.proofs.Common.{Some, sym, ap, ◌∙◌}
 use Rattle.expr_schema.specs.SchemaView.{scope_of}
 use Rattle.expr_kinds.proofs.Judged.{if-ok}
+use Rattle.expr_kinds.proofs.Tabled.{told-builtin, unknown-call}
 use Rattle.expr_kinds.proofs.Told.{bound-functions}
 use Rattle.expr_kinds.proofs.calls.call_checked.Goals as goal
 
@@ -9,8 +9,16 @@ pub returns-in-Some-clause-ok : goal.returns-in-Some-clause-ok
 returns-in-Some-clause-ok c =
     let schema = scope_of c.args.known.now.schema.now in
     if-ok c.signed_checked.result _ _ (
-    λ d h s ts p keeps es. h s c.args.key.now ts p (ap (λ f. f c.args.key.now) (keeps.functions ∙ bound-functions c.args.known.now.bound.items schema) ∙ sym c.in-Some.ensures) es
+    λ d h s p keeps. h s c.args.key.now p (ap (λ f. f c.args.key.now) (keeps.functions ∙ bound-functions c.args.known.now.bound.items schema) ∙ sym c.in-Some.ensures)
     ) c.signed_checked.ensures.ok
 
-pub returns-in-None-clause-ok : goal.returns-in-None-clause-ok
-returns-in-None-clause-ok c = λ s ts p keeps es. c.unknown.ensures.tree s (call c.args.key.now ts p)
+pub returns-in-Some-OnValues-clause-ok : goal.returns-in-Some-OnValues-clause-ok
+returns-in-Some-OnValues-clause-ok c =
+    let schema = scope_of c.args.known.now.schema.now in
+    let key = c.args.key.now in
+    if-ok c.builtin_checked.result _ _ (
+    λ d h s p keeps. told-builtin c.args.arguments.now d s key p c.in-Some-OnValues.call (ap (λ f. f key) (keeps.functions ∙ bound-functions c.args.known.now.bound.items schema) ∙ sym c.in-None.ensures) (sym c.in-Some-OnValues.ensures ∙ ap Some c.in-Some-OnValues.field-0-is) h
+    ) c.builtin_checked.ensures.ok
+
+pub returns-in_default-clause-ok : goal.returns-in_default-clause-ok
+returns-in_default-clause-ok c = λ s p keeps. unknown-call c.args.arguments.now c.unknown.result c.unknown.ensures.kind c.unknown.ensures.effect s c.args.key.now p

@@ -1,4 +1,5 @@
-use Rattle.std.proofs.Common.{◌≡◌, ◌==◌, ◌++◌, ◌+◌, ◌≤◌, Bool, true, false, List, [], ◌∷◌, length, map, drop, get_or, Box, Vec, String, Global, string_bytes, inl, vec_len, append-nil, refl, sym, ap, ◌∙◌, subst, arith, rules}
+use Rattle.std.proofs.Common.{◌≡◌, ◌==◌, ◌++◌, ◌+◌, ◌≤◌, Bool, true, false, List, [], ◌∷◌, Option, Some, None, length, map, drop, get_or, Box, Vec, String, Global, string_bytes, inl, vec_len, append-nil, refl, sym, ap, ◌∙◌, subst, arith, rules}
+use Rattle.std.specs.Option.{option_copied}
 use Rattle.std.proofs.lemmas.Bool.{eqb-true}
 use Rattle.std.proofs.lemmas.List.{drop_all}
 use Rattle.expr_functions.specs.Strictness.{operator_strictness}
@@ -7,22 +8,25 @@ use Rattle.expr_schema.proofs.Shapes.{kind_view-Map}
 use Rattle.expr_tree.specs.declared.node.Node.TheShapes.{weighed-Node-Map-0-at-2}
 use Rattle.expr_tree.proofs.node.Node.TheLaws.{the_size}
 use Rattle.expr_tree.proofs.Programs.{term_of-parts}
-use Rattle.expr_tree.proofs.Shapes.{term_of-Array, term_of-Conditional, term_of-Func, term_of-Ident, term_of-Index, term_of-Map, term_of-Operation, term_of-Postfix, term_of-Range, term_of-Ternary, term_of-Unary, term_of-Value}
-use Rattle.expr_tree.specs.Term.{name, list, mapping, call, postfix, index, coalesce, answers, block_with, term_pairs}
-use Rattle.expr_tree.specs.TermOf.{line_term, postfix_term, predicate_term, program_term, term_of, terms_of}
+use Rattle.expr_tree.proofs.Shapes.{term_of-Array, term_of-Conditional, term_of-Func, term_of-Ident, term_of-Index, term_of-Map, term_of-Method, term_of-Operation, term_of-Postfix, term_of-Range, term_of-Slice, term_of-Ternary, term_of-Unary, term_of-Value}
+use Rattle.expr_tree.specs.Term.{Term, name, list, mapping, call, postfix, index, slice, pipe, method, coalesce, answers, block_with, term_pairs}
+use Rattle.expr_tree.specs.TermOf.{bound_term, line_term, postfix_term, predicate_term, program_term, term_of, terms_of}
 use Rattle.expr_tree.specs.declared.node.Node.{Node, the_lemmas}
 use Rattle.expr_tree.specs.declared.node.PostfixOperator.TheVariants as behind
-use Rattle.expr_schema.specs.Kinds.{array, map as a_map, field, no_others, HasKind, SameFields, StandsAt}
+use Rattle.expr_schema.specs.Kinds.{Effect, Kind, array, integer, map as a_map, field, no_others, HasKind, SameFields, StandsAt}
 use Rattle.expr_schema.specs.KindView.{Entry, fields_view, kind_view}
 use Rattle.expr_schema.specs.SchemaView.{effect_of}
-use Rattle.expr_kinds.specs.Checks.{Checks, ChecksBlock, ChecksBlockIn, ChecksEachIn, ChecksIn, Upholds, known_scope}
+use Rattle.expr_kinds.specs.Checks.{Checks, ChecksBlock, ChecksBlockIn, ChecksBound, ChecksEachIn, ChecksIn, Upholds, known_scope, literals_view}
+use Rattle.expr_kinds.specs.Effects.{CoversEffect}
 use Rattle.expr_kinds.specs.Narrowing.{after, assuming}
 use Rattle.expr_kinds.specs.Scopes.{bind_kind}
-use Rattle.expr_kinds.specs.Typed.{Typed, TypedAll, TypedBlock, TypedEach, TypedPairs}
+use Rattle.expr_schema.specs.Scopes.{Scope}
+use Rattle.expr_kinds.specs.Typed.{Typed, TypedAll, TypedBlock, TypedBound, TypedEach, TypedPairs, literal_of, literals_of}
 use Rattle.expr_kinds.proofs.Composed.{list-typed}
 use Rattle.expr_kinds.proofs.Judged.{covers-through, fits-same, if-ok, within-fits}
+use Rattle.expr_kinds.proofs.Tabled.{told-call, told-pipe}
 use Rattle.expr_kinds.proofs.TableKinds.{entry-made, field-lets, map-lets}
-use Rattle.expr_kinds.proofs.Told.{drop-at, pushed}
+use Rattle.expr_kinds.proofs.Told.{drop-at, known-pushed, pushed}
 use Rattle.expr_kinds.proofs.Refined.{after-keeps, assuming-keeps, bind-upholds}
 use Rattle.expr_kinds.proofs.checking.+check.Goals as goal
 
@@ -68,10 +72,12 @@ node_checked-returns-in_ok-second-in-Operation-clause-ok t c =
     let first = c.in_ok-first-in-Operation.first in
     let second = c.in_ok-second-in-Operation.second in
     let told_l : ChecksIn known first (term_of l) = subst (λ n. ChecksIn known first (term_of n)) c.deref-in-Operation.ensures c.in_ok-first-in-Operation.ensures.ok in
+    let lits = ap (λ o. o ∷ option_copied c.literal_value-in-Operation.result ∷ []) (c.literal_value.ensures ∙ ap (λ n. literal_of (term_of n)) c.deref-in-Operation-3.ensures)
+    ∙ ap (λ o. literal_of (term_of l) ∷ o ∷ []) (c.literal_value-in-Operation.ensures ∙ ap (λ n. literal_of (term_of n)) c.deref-in-Operation-4.ensures) in
     let told_r : ChecksIn known second (term_of r) = subst (λ n. ChecksIn known second (term_of n)) c.deref-in-Operation-2.ensures c.in_ok-second-in-Operation.ensures.ok in
     if-ok c.operation_checked.result _ _ (
     λ d h s keeps. subst (λ u. Checks d s u) (sym shape) (
-    h s (term_of l) (term_of r) (told_l s keeps) (told_r (after (operator_strictness op) (term_of l) s) (after-keeps (operator_strictness op) (term_of l) known s keeps))
+    h s (term_of l) (term_of r) lits (told_l s keeps) (told_r (after (operator_strictness op) (term_of l) s) (after-keeps (operator_strictness op) (term_of l) known s keeps))
     )
     ) c.operation_checked.ensures.ok
 
@@ -82,7 +88,7 @@ node_checked-returns-in_ok-operand-in-Postfix-clause-ok t c =
     let m = c.in-Postfix.node.value in
     let operand = c.in_ok-operand-in-Postfix.operand in
     let told : ChecksIn known operand (term_of m) = subst (λ n. ChecksIn known operand (term_of n)) c.deref-in-Postfix.ensures c.in_ok-operand-in-Postfix.ensures.ok in
-    if-ok c.postfix_checked.result _ _ (λ d h s keeps. subst (λ u. Checks d s u) (sym shape) (h s (term_of m) keeps (told s keeps))) c.postfix_checked.ensures.ok
+    if-ok c.postfix_checked.result _ _ (λ d h s keeps. subst (λ u. Checks d s u) (sym shape) (h s (term_of m) keeps (c.literal_value-in-Postfix.ensures ∙ ap (λ n. literal_of (term_of n)) c.deref-in-Postfix-2.ensures) (told s keeps))) c.postfix_checked.ensures.ok
 
 pub node_checked-returns-in_ok-second-in-Conditional-clause-ok : goal.node_checked-returns-in_ok-second-in-Conditional-clause-ok
 node_checked-returns-in_ok-second-in-Conditional-clause-ok t c =
@@ -163,7 +169,7 @@ pub postfix_checked-returns-in-Some-clause-ok : goal.postfix_checked-returns-in-
 postfix_checked-returns-in-Some-clause-ok t c =
     let o = c.in-Index.optional in
     let shape = ap postfix_term c.in-Index.is ∙ term_of-Index c.in-Index.idx o ∙ ap (λ k. index k o) (ap term_of (sym c.deref.ensures) ∙ c.in-Some.ensures) in
-    if-ok c.member_checked.result _ _ (λ d h s u keeps hu. subst (λ q. Checks d s (postfix q u)) (sym shape) (h s u hu)) c.member_checked.ensures.ok
+    if-ok c.member_checked.result _ _ (λ d h s u keeps lit hu. subst (λ q. Checks d s (postfix q u)) (sym shape) (h s u hu)) c.member_checked.ensures.ok
 
 pub postfix_checked-returns-in_ok-key-in-None-clause-ok : goal.postfix_checked-returns-in_ok-key-in-None-clause-ok
 postfix_checked-returns-in_ok-key-in-None-clause-ok t c =
@@ -172,7 +178,10 @@ postfix_checked-returns-in_ok-key-in-None-clause-ok t c =
     let key = c.in_ok-key-in-None.key in
     let shape = ap postfix_term c.in-Index.is ∙ term_of-Index c.in-Index.idx c.in-Index.optional in
     let told : ChecksIn known key i = subst (λ n. ChecksIn known key (term_of n)) c.deref-in-None.ensures c.in_ok-key-in-None.ensures.ok in
-    if-ok c.part_checked.result _ _ (λ d h s u keeps hu. subst (λ q. Checks d s (postfix q u)) (sym shape) (h s u i hu (told s keeps))) c.part_checked.ensures.ok
+    if-ok c.part_checked.result _ _ (λ d h s u keeps lit hu. subst (λ q. Checks d s (postfix q u)) (sym shape) (h s u i hu (told s keeps))) c.part_checked.ensures.ok
+
+term_of-Pipe : (n : Box Node Global) → postfix_term (behind.Pipe n) ≡ pipe (term_of n.value)
+term_of-Pipe n = search (rules, the_lemmas)
 
 term_of-Default : (n : Box Node Global) → postfix_term (behind.Default n) ≡ coalesce (term_of n.value)
 term_of-Default n = search (rules, the_lemmas)
@@ -184,7 +193,7 @@ postfix_checked-returns-in_ok-other-in-Default-clause-ok t c =
     let other = c.in_ok-other-in-Default.other in
     let shape = ap postfix_term c.in-Default.is ∙ term_of-Default c.in-Default.node in
     let told : ChecksIn known other n = subst (λ m. ChecksIn known other (term_of m)) c.deref-in-Default.ensures c.in_ok-other-in-Default.ensures.ok in
-    if-ok c.coalesce_checked.result _ _ (λ d h s u keeps hu. subst (λ q. Checks d s (postfix q u)) (sym shape) (h s u n hu (told s keeps))) c.coalesce_checked.ensures.ok
+    if-ok c.coalesce_checked.result _ _ (λ d h s u keeps lit hu. subst (λ q. Checks d s (postfix q u)) (sym shape) (h s u n hu (told s keeps))) c.coalesce_checked.ensures.ok
 
 pub postfix_checked-returns-in_ok-second-in-Ternary-clause-ok : goal.postfix_checked-returns-in_ok-second-in-Ternary-clause-ok
 postfix_checked-returns-in_ok-second-in-Ternary-clause-ok t c =
@@ -197,16 +206,69 @@ postfix_checked-returns-in_ok-second-in-Ternary-clause-ok t c =
     let told_a : ChecksIn known first a = subst (λ m. ChecksIn known first (term_of m)) c.deref-in-Ternary.ensures c.in_ok-first-in-Ternary.ensures.ok in
     let told_b : ChecksIn known second b = subst (λ m. ChecksIn known second (term_of m)) c.deref-in-Ternary-2.ensures c.in_ok-second-in-Ternary.ensures.ok in
     if-ok c.choice_checked.result _ _ (
-    λ d h s u keeps hu. subst (λ q. Checks d s (postfix q u)) (sym shape) (
+    λ d h s u keeps lit hu. subst (λ q. Checks d s (postfix q u)) (sym shape) (
     h s u a b hu (told_a (assuming u true s) (assuming-keeps u true known s keeps)) (told_b (assuming u false s) (assuming-keeps u false known s keeps))
     )
     ) c.choice_checked.ensures.ternary
 
-pub postfix_checked-returns-in-Range-clause-ok : goal.postfix_checked-returns-in-Range-clause-ok
-postfix_checked-returns-in-Range-clause-ok t c = λ s u keeps hu. c.unknown-in-Range.ensures.tree s (postfix (postfix_term c.args.operator.now) u)
+pub postfix_checked-returns-in_ok-last-in-Range-clause-ok : goal.postfix_checked-returns-in_ok-last-in-Range-clause-ok
+postfix_checked-returns-in_ok-last-in-Range-clause-ok t c =
+    let shape = ap postfix_term c.in-Range.is ∙ term_of-Slice c.in-Range.start c.in-Range.end in
+    if-ok c.slice_checked.result _ _ (
+    λ d h s u keeps lit hu. subst (λ q. Checks d s (postfix q u)) (sym shape) (h s u (bound_term c.in-Range.start) (bound_term c.in-Range.end) hu (c.in_ok-first-in-Range.ensures.ok s keeps) (c.in_ok-last-in-Range.ensures.ok s keeps))
+    ) c.slice_checked.ensures.ok
 
-pub postfix_checked-returns-in-Method-clause-ok : goal.postfix_checked-returns-in-Method-clause-ok
-postfix_checked-returns-in-Method-clause-ok t c = λ s u keeps hu. c.unknown.ensures.tree s (postfix (postfix_term c.args.operator.now) u)
+pub postfix_checked-returns-in-Pipe-clause-ok : goal.postfix_checked-returns-in-Pipe-clause-ok
+postfix_checked-returns-in-Pipe-clause-ok t c =
+    let shape = ap postfix_term c.in-Pipe.is ∙ term_of-Pipe c.in-Pipe.target in
+    if-ok c.piped_checked.result _ _ (λ d h s u keeps lit hu. subst (λ q. Checks d s (postfix q u)) (sym (shape ∙ ap (λ n. pipe (term_of n)) (sym c.deref-in-Pipe.ensures))) (h s u keeps lit hu)) c.piped_checked.ensures.ok
+
+pub postfix_checked-returns-in_ok-arguments-in-Method-clause-ok : goal.postfix_checked-returns-in_ok-arguments-in-Method-clause-ok
+postfix_checked-returns-in_ok-arguments-in-Method-clause-ok t c =
+    let known = known_scope c.args.known.now in
+    let ns = c.in-Method.args in
+    let ts = terms_of (map term_of ns.items) in
+    let given = c.in_ok-arguments-in-Method.arguments in
+    let shape = ap postfix_term c.in-Method.is ∙ term_of-Method c.in-Method.ident ns in
+    let told : ChecksEachIn known given ts = subst (λ xs. ChecksEachIn known given (terms_of (map term_of xs))) c.deref-in-Method.ensures.value c.in_ok-arguments-in-Method.ensures.ok in
+    if-ok c.method_checked.result _ _ (
+    λ d h s u keeps lit hu. subst (λ q. Checks d s (postfix q u)) (sym shape) (subst (λ k. Checks d s (postfix (method k ts) u)) c.deref-in-Method-2.ensures (h s u ts hu (told s keeps)))
+    ) c.method_checked.ensures.ok
+
+-- the bounds of a slice
+pub bound_checked-returns-in-Some-clause-ok : goal.bound_checked-returns-in-Some-clause-ok
+bound_checked-returns-in-Some-clause-ok t c =
+    if-ok c.node_checked.result _ _ (
+    λ d h s keeps. subst (λ b. ChecksBound d s (bound_term b)) (sym c.in-Some.is) (
+    λ e covers fits. within-fits (λ a. Typed e s (term_of c.in-Some.node.value) a) (kind_view d.kind) integer (subst (λ n. Checks d s (term_of n)) c.deref.ensures (h s keeps) e covers) fits
+    )
+    ) c.node_checked.ensures.ok
+
+pub bound_checked-returns-in-None-clause-ok : goal.bound_checked-returns-in-None-clause-ok
+bound_checked-returns-in-None-clause-ok t c = λ s keeps e covers fits. subst (λ b. TypedBound e s (bound_term b)) (sym c.in-None.is) tt
+
+-- pipes
+pub piped_checked-returns-in_ok-arguments-in-Func-clause-ok : goal.piped_checked-returns-in_ok-arguments-in-Func-clause-ok
+piped_checked-returns-in_ok-arguments-in-Func-clause-ok t c =
+    let known = known_scope c.args.known.now in
+    let ns = c.in-Func.args in
+    let ts = terms_of (map term_of ns.items) in
+    let p = predicate_term c.in-Func.predicate in
+    let rest = c.in_ok-rest-in-Func.rest in
+    let given = c.in_ok-arguments-in-Func.arguments in
+    let shape = ap term_of c.in-Func.is ∙ term_of-Func c.in-Func.ident ns c.in-Func.predicate in
+    let told : ChecksEachIn known rest ts = subst (λ xs. ChecksEachIn known rest (terms_of (map term_of xs))) c.deref.ensures.value c.in_ok-rest-in-Func.ensures.ok in
+    let front = c.in_ok-arguments-in-Func.ensures in
+    if-ok c.call_checked.result _ _ (
+    λ d h s u keeps lit hu. subst (λ x. Checks d s (postfix (pipe x) u)) (sym shape) (
+    subst (λ k. Checks d s (postfix (pipe (call k ts p)) u)) c.deref-in-Func.ensures (
+    told-pipe given d s c.deref-in-Func.result.now p c.args.operand.now rest u ts (option_copied c.args.literal) lit front.kinds front.literals front.operand front.rest hu (told s keeps) (h s p keeps)
+    )
+    )
+    ) c.call_checked.ensures.ok
+
+pub piped_checked-returns-in_default-clause-ok : goal.piped_checked-returns-in_default-clause-ok
+piped_checked-returns-in_default-clause-ok t c = λ s u keeps lit hu. c.unknown.ensures.tree s (postfix (pipe (term_of c.args.target.now)) u)
 
 -- the items of an array
 pub node_checked-returns-in-Array-clause-ok : goal.node_checked-returns-in-Array-clause-ok
@@ -247,40 +309,57 @@ node_checked-returns-in_ok-arguments-in-Func-clause-ok t c =
     let ns = c.in-Func.args in
     let ts = terms_of (map term_of ns.items) in
     let p = predicate_term c.in-Func.predicate in
+    let given = c.in_ok-arguments-in-Func.arguments in
     let shape = ap term_of c.in-Func.is ∙ term_of-Func c.in-Func.ident ns c.in-Func.predicate in
-    let told : ChecksEachIn known c.in_ok-arguments-in-Func.arguments ts = subst (λ xs. ChecksEachIn known c.in_ok-arguments-in-Func.arguments (terms_of (map term_of xs))) c.deref-in-Func.ensures.value c.in_ok-arguments-in-Func.ensures.ok in
+    let told : ChecksEachIn known given ts = subst (λ xs. ChecksEachIn known given (terms_of (map term_of xs))) c.deref-in-Func.ensures.value c.in_ok-arguments-in-Func.ensures.ok in
     if-ok c.call_checked.result _ _ (
-    λ d h s keeps. subst (λ u. Checks d s u) (sym shape) (subst (λ k. Checks d s (call k ts p)) c.deref-in-Func-2.ensures (h s ts p keeps (told s keeps)))
+    λ d h s keeps. subst (λ u. Checks d s u) (sym shape) (subst (λ k. Checks d s (call k ts p)) c.deref-in-Func-2.ensures (told-call given d s c.deref-in-Func-2.result.now p ts (told s keeps) (h s p keeps)))
     ) c.call_checked.ensures.ok
 
 pub arguments_checked-loop-node-init : goal.arguments_checked-loop-node-init
-arguments_checked-loop-node-init t c = λ s keeps e covers ks h. subst (λ xs. TypedEach e s (terms_of (map term_of c.args.nodes.now)) (map kind_view xs ++ ks)) (sym c.new-kinds.ensures.items) h
+arguments_checked-loop-node-init t c = record {
+  literals = ap (λ xs. literals_view xs ++ literals_of (terms_of (map term_of c.args.nodes.now))) c.new-literals.ensures.items;
+  kinds = λ s keeps e covers ks h. subst (λ xs. TypedEach e s (terms_of (map term_of c.args.nodes.now)) (map kind_view xs ++ ks)) (sym c.new-kinds.ensures.items) h;
+}
 
 pub arguments_checked-loop-node-preserved : goal.arguments_checked-loop-node-preserved
-arguments_checked-loop-node-preserved t c = λ s keeps e covers ks h.
+arguments_checked-loop-node-preserved t c =
     let ns = c.args.nodes.now in
     let i = c.loop-node.node-index in
     let n = c.node-item.result in
-    let checked = c.in_ok-checked.checked in
-    let k = kind_view checked.kind in
-    let f = effect_of c.joined_effect-effect.result in
     let at = drop-at ns i n c.node-item.is c.loop-node-test.true in
-    let within = c.in_ok-checked.ensures.ok s keeps e (covers-through e f (effect_of checked.effect) covers c.joined_effect-effect.ensures.second) in
-    let all = c.loop-node.invariant s keeps e (covers-through e f (effect_of c.loop-node.effect) covers c.joined_effect-effect.ensures.first) (k ∷ ks) (
-    subst (λ xs. TypedEach e s (terms_of (map term_of xs)) (k ∷ ks)) (sym at) (k, ks, refl, within, h)
-    ) in
-    subst (λ xs. TypedEach e s (terms_of (map term_of ns)) (map kind_view xs ++ ks)) (sym c.in_ok-push.ensures.items) (
-    subst (λ ys. TypedEach e s (terms_of (map term_of ns)) ys) (sym (pushed c.loop-node.kinds.items checked.kind ks)) all
-    )
+    let more = literals_of (terms_of (map term_of (drop (i + 1) ns))) in
+    let before = c.loop-node.literals.items in
+    record {
+      literals = ap (λ xs. literals_view xs ++ more) c.in_ok-push-2.ensures.items
+          ∙ known-pushed before c.literal_value.result (literal_of (term_of n)) more c.literal_value.ensures
+          ∙ ap (λ xs. literals_view before ++ literals_of (terms_of (map term_of xs))) (sym at)
+          ∙ c.loop-node.invariant.literals;
+      kinds = λ s keeps e covers ks h.
+          let checked = c.in_ok-checked.checked in
+          let k = kind_view checked.kind in
+          let f = effect_of c.joined_effect-effect.result in
+          let within = c.in_ok-checked.ensures.ok s keeps e (covers-through e f (effect_of checked.effect) covers c.joined_effect-effect.ensures.second) in
+          let all = c.loop-node.invariant.kinds s keeps e (covers-through e f (effect_of c.loop-node.effect) covers c.joined_effect-effect.ensures.first) (k ∷ ks) (
+          subst (λ xs. TypedEach e s (terms_of (map term_of xs)) (k ∷ ks)) (sym at) (k, ks, refl, within, h)
+          ) in
+          subst (λ xs. TypedEach e s (terms_of (map term_of ns)) (map kind_view xs ++ ks)) (sym c.in_ok-push.ensures.items) (
+          subst (λ ys. TypedEach e s (terms_of (map term_of ns)) ys) (sym (pushed c.loop-node.kinds.items checked.kind ks)) all
+          );
+    }
 
 pub arguments_checked-returns-clause-ok : goal.arguments_checked-returns-clause-ok
-arguments_checked-returns-clause-ok t c = λ s keeps e covers.
-    let ns = c.args.nodes.now in
-    let i = c.loop-node.node-index in
-    let all = c.loop-node.invariant s keeps e covers [] (subst (λ xs. TypedEach e s (terms_of (map term_of xs)) []) (sym (drop_all i ns c.loop-node-test.false)) refl) in
-    subst (λ xs. TypedEach e s (terms_of (map term_of ns)) (map kind_view xs)) (sym c.from_vec.ensures) (
-    subst (λ ys. TypedEach e s (terms_of (map term_of ns)) ys) (append-nil (map kind_view c.loop-node.kinds.items)) all
-    )
+arguments_checked-returns-clause-ok t c = λ s keeps. (
+  ap literals_view c.from_vec-2.ensures ∙ sym (append-nil (literals_view c.loop-node.literals.items))
+      ∙ ap (λ xs. literals_view c.loop-node.literals.items ++ literals_of (terms_of (map term_of xs))) (sym (drop_all c.loop-node.node-index c.args.nodes.now c.loop-node-test.false)) ∙ c.loop-node.invariant.literals,
+  λ e covers.
+      let ns = c.args.nodes.now in
+      let i = c.loop-node.node-index in
+      let all = c.loop-node.invariant.kinds s keeps e covers [] (subst (λ xs. TypedEach e s (terms_of (map term_of xs)) []) (sym (drop_all i ns c.loop-node-test.false)) refl) in
+      subst (λ xs. TypedEach e s (terms_of (map term_of ns)) (map kind_view xs)) (sym c.from_vec.ensures) (
+      subst (λ ys. TypedEach e s (terms_of (map term_of ns)) ys) (append-nil (map kind_view c.loop-node.kinds.items)) all
+      ),
+)
 
 -- the pairs of a map
 pub node_checked-returns-in-Map-clause-ok : goal.node_checked-returns-in-Map-clause-ok

@@ -16,28 +16,28 @@ use Rattle.expr_kinds.proofs.operations.operation_checked.Goals as goal
 pub returns-in-Both-clause-ok : goal.returns-in-Both-clause-ok
 returns-in-Both-clause-ok c =
     let both : operator_strictness c.args.operator ≡ Both = sym c.strictness_of.ensures ∙ c.in-Both.is in
-    if-ok c.row_checked.result _ _ (λ d h s l r hl hr. h s l r hl (subst (λ st. Checks c.args.right.now (after st l s) r) both hr)) (c.row_checked.ensures.ok both)
+    if-ok c.row_checked.result _ _ (λ d h s l r lits hl hr. h s l r lits hl (subst (λ st. Checks c.args.right.now (after st l s) r) both hr)) (c.row_checked.ensures.ok both)
 
 pub returns-in-Some-clause-ok : goal.returns-in-Some-clause-ok
-returns-in-Some-clause-ok c = λ s l r hl hr e covers.
+returns-in-Some-clause-ok c = λ s l r lits hl hr e covers.
     told-and c.args.left.now c.args.right.now (effect_of c.in-Some.effect) c.args.operator s l r (sym c.strictness_of.ensures ∙ c.in-EndsAtFalse.is) c.in-Some.ensures.left c.in-Some.ensures.right
     (kind_view memory.Bool) (fits-same bool (kind_view memory.Bool) (sym kind_view-Bool)) hl hr e covers
 
 pub returns-in-Some-sides_effect-clause-ok : goal.returns-in-Some-sides_effect-clause-ok
-returns-in-Some-sides_effect-clause-ok c = λ s l r hl hr e covers.
+returns-in-Some-sides_effect-clause-ok c = λ s l r lits hl hr e covers.
     told-or c.args.left.now c.args.right.now (effect_of c.in-Some-sides_effect.effect) c.args.operator s l r (sym c.strictness_of.ensures ∙ c.in-EndsAtTrue.is) c.in-Some-sides_effect.ensures.left c.in-Some-sides_effect.ensures.right
     (kind_view memory.Bool) (fits-same bool (kind_view memory.Bool) (sym kind_view-Bool)) hl hr e covers
 
 pub returns-in-Some-sides_effect-2-clause-ok : goal.returns-in-Some-sides_effect-2-clause-ok
-returns-in-Some-sides_effect-2-clause-ok c = λ s l r hl hr e covers.
+returns-in-Some-sides_effect-2-clause-ok c = λ s l r lits hl hr e covers.
     told-match c.args.left.now c.args.right.now (effect_of c.in-Some-sides_effect-2.sides) c.args.operator s l r (effect_of c.joined_effect-effect.result) (sym c.strictness_of.ensures ∙ c.in-Pattern.is) c.in-Some-sides_effect-2.ensures.left c.in-Some-sides_effect-2.ensures.right
     c.joined_effect-effect.ensures.first c.joined_effect-effect.ensures.second (kind_view memory.Bool) (fits-same bool (kind_view memory.Bool) (sym kind_view-Bool)) hl hr e covers
 
 pub returns-in-None-clause-ok : goal.returns-in-None-clause-ok
-returns-in-None-clause-ok c = λ s l r hl hr. c.unknown.ensures.tree s (operation c.args.operator l r)
+returns-in-None-clause-ok c = λ s l r lits hl hr. c.unknown.ensures.tree s (operation c.args.operator l r)
 
 pub returns-in-None-sides_effect-clause-ok : goal.returns-in-None-sides_effect-clause-ok
-returns-in-None-sides_effect-clause-ok c = λ s l r hl hr. c.unknown-in-None-sides_effect.ensures.tree s (operation c.args.operator l r)
+returns-in-None-sides_effect-clause-ok c = λ s l r lits hl hr. c.unknown-in-None-sides_effect.ensures.tree s (operation c.args.operator l r)
 
 pub returns-in-None-sides_effect-2-clause-ok : goal.returns-in-None-sides_effect-2-clause-ok
-returns-in-None-sides_effect-2-clause-ok c = λ s l r hl hr. c.unknown-in-None-sides_effect-2.ensures.tree s (operation c.args.operator l r)
+returns-in-None-sides_effect-2-clause-ok c = λ s l r lits hl hr. c.unknown-in-None-sides_effect-2.ensures.tree s (operation c.args.operator l r)

@@ -15,8 +15,8 @@ returns g c =
     let host : Host = host_of c.args.self.now in
     let blocks : List (List Op) = blocks_of g.L.Pointer.held (λ n. string_bytes (g.N.Pointer.held n)) c.args.code.now in
     record {
-      outcome = c.execute_limited_with.ensures.outcome;
-      answer = code_answers (world_of host base) blocks c.args.limits.now c.execute_limited_with.result c.execute_limited_with.ensures.outcome;
-      depth = c.execute_limited_with.ensures.depth;
-      pattern = c.execute_limited_with.ensures.pattern;
+      outcome = c.execute_limited_with.ensures.code.outcome;
+      answer = code_answers (world_of host base) blocks c.args.limits.now c.execute_limited_with.result c.execute_limited_with.ensures.code.outcome;
+      depth = c.execute_limited_with.ensures.code.depth;
+      pattern = c.execute_limited_with.ensures.code.pattern;
     }

@@ -11,3 +11,6 @@ returns-clause-tree c = λ s t e covers. (any, unknown-typed e covers s t, fits-
 
 pub returns-clause-block : goal.returns-clause-block
 returns-clause-block c = λ s b e covers. (any, unknown-block e covers s b, fits-same any (kind_view memory.Any) (sym kind_view-Any))
+
+pub returns-clause-kind : goal.returns-clause-kind
+returns-clause-kind c = kind_view-Any
