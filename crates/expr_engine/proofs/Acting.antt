@@ -1,5 +1,5 @@
 -- What a call does that is asked for.
-use Rattle.std.proofs.Common.{◌≡◌, [], Option, None, MatchOption, Result, Ok, Err, OnErr, OnOk, IfErr, IsErrAnd, ap, arith, refl, string_bytes, subst, sym, ◌∙◌}
+use Rattle.std.proofs.Common.{◌≡◌, [], Option, None, MatchOption, Result, Ok, Err, OnErr, OnOk, IfErr, IsErrAnd, ap, arith, string_bytes, subst, sym}
 use Rattle.expr_exchange.specs.Asks.{ask_of}
 use Rattle.expr_engine.specs.Effects.{Does, HandleFindsNothing, call_result}
 use Rattle.expr_engine.specs.Engines.{KeepsThings, KeepsRest, Leaves, NumbersRise, rest_of_engine}
@@ -32,24 +32,6 @@ pub acts : {ask : Ask} {old new : Engine} {call answered : Call} {done : Result 
     → LimitsBy ask old.limits call (done ≡ Ok tt) (IsErrAnd done IsMisuse) new.limits
     → OnErr done (Leaves old new) → IfErr done (MayRefuse ask old call) → (HandleFindsNothing ask old call → done ≡ Err Unknown) → (done ≡ Err Unknown → HandleFindsNothing ask old call) → NumbersRise old new → answered.room.now ≡ call.room.now → Acts ask old new call answered done
 acts d g t l r w u k n o = record { does = d; gives = g; turns = t; limits = l; refused = r; why = w; unknown = u; known = k; numbers = n; room = o }
-
--- a call that fails and changes nothing
-pub refuses_at : {ask : Ask} {engine : Engine} {call : Call} (r : Result (Unit {0}) HostError) (e : HostError) → IsErrAnd r (λ x. x ≡ e)
-    → Gives ask engine call call r (part_of engine.answer) → Turns ask engine call r (rest_of_engine engine) (part_of engine.answer) → LimitsBy ask engine.limits call (r ≡ Ok tt) (IsErrAnd r IsMisuse) engine.limits
-    → MayRefuse ask engine call e → (HandleFindsNothing ask engine call → e ≡ Unknown) → (e ≡ Unknown → HandleFindsNothing ask engine call) → Acts ask engine engine call call r
-refuses_at (Ok v) e is g t l w u k = absurd is
-refuses_at {ask} {engine} {call} (Err x) e is g t l w u k = record {
-  does = tt;
-  gives = g;
-  turns = t;
-  limits = l;
-  refused = leaves (same_kept engine engine refl) refl;
-  why = subst (λ (y : HostError). MayRefuse ask engine call y) (sym is) w;
-  unknown = λ m. ap Err (is ∙ u m);
-  known = λ b. k (let same : x ≡ Unknown = cc b in sym is ∙ same);
-  numbers = numbers_kept engine engine refl refl;
-  room = refl;
-}
 
 -- a number that asks for nothing is misused
 pub served_nothing : (old new : Engine) (call answered : Call) → ask_of call.ask ≡ None → answered.status ≡ 7 → KeepsThings old new → KeepsRest old new → values_of new.built ≡ [] → ShowsText (string_bytes new.said) call.room.now answered → IsServed old new call answered

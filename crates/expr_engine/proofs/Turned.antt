@@ -1,22 +1,23 @@
 -- Runs that begin, and runs that go on with a reply.
-use Rattle.std.proofs.Common.{◌≡◌, ◌∙◌, ◌+◌, Option, None, Some, IsErrAnd, IsSome, IsSomeAnd, MatchOption, Result, Ok, Err, ap, refl, subst, sym}
+use Rattle.std.proofs.Common.{◌≡◌, ◌∙◌, ◌+◌, List, Option, None, Some, IsErrAnd, IsSome, IsSomeAnd, MatchOption, Result, Ok, Err, ap, refl, subst, sym}
 use Rattle.std.proofs.lemmas.Bool.{false≢true}
 use Rattle.std.specs.Option.{option_and_then, option_map}
+use Rattle.expr_code.specs.Instructions.{Op}
 use Rattle.expr_context.specs.Contexts.{NamedValues}
 use Rattle.expr_engine.specs.Effects.{Changes, LetsGo}
 use Rattle.expr_engine.specs.Engines.{MayEnd, RestOfEngine, RunInputs, RunMayAnswer, additions_at, names_at, run_inputs, world_of_run}
 use Rattle.expr_engine.specs.Runs.{MeaningAllows}
 use Rattle.expr_engine.specs.Served.{RunServes}
 use Rattle.expr_engine.specs.Pending.{PendingView}
-use Rattle.expr_engine.specs.Turns.{EndsTurn, GoesOnRun, IsWaitingRun, MayEndWith, PassesOn, SameRuns, StartsRun, TurnGives, TurnReaches, TurnServes, UnlessAsks, WaitsAgain, seen_at}
+use Rattle.expr_engine.specs.Turns.{EndsTurn, GoesOnRun, IfWaits, IsWaitingRun, MayEndWith, PassesOn, SameRuns, StartsRun, TurnGives, TurnReaches, TurnServes, UnlessAsks, WaitsAgain, seen_at, waiting_inputs}
 use Rattle.expr_engine.specs.declared.additions.Additions.{Additions}
 use Rattle.expr_engine.specs.declared.engine.Engine.{Engine}
 use Rattle.expr_engine.specs.declared.rule.Rule.{Rule}
 use Rattle.expr_engine.specs.declared.waiting_run.TurnEnd.{TurnEnd}
 use Rattle.expr_engine.specs.declared.waiting_run.WaitingRun.{WaitingRun}
 use Rattle.expr_engine.specs.declared.waiting_run.TurnEnd.TheVariants as came
-use Rattle.expr_error.specs.ErrorKind.{error_kind, memory}
 use Rattle.expr_error.specs.declared.error.Error.{Error}
+use Rattle.expr_error.specs.declared.error.Error.TheVariants.{MemoryError}
 use Rattle.expr_exchange.specs.HandleMap.{KeepsOthers, SameThings, next_number, tag_of, thing_at}
 use Rattle.expr_exchange.specs.declared.handles.Handle.{Handle}
 use Rattle.expr_exchange.specs.declared.host_error.HostError.{HostError}
@@ -31,7 +32,8 @@ use Rattle.expr_limits.specs.declared.outcome.Outcome.TheVariants.{Answered, Sto
 use Rattle.expr_lowering.specs.OwnedCodes.{owned_blocks}
 use Rattle.expr_machine.specs.Given.{MayGive as GivesWithin}
 use Rattle.expr_stops.specs.Stops.{UsesWithin}
-use Rattle.expr_stops.specs.Turns.{IfEnded, ReachesBy, StopsWithin, limits_of}
+use Rattle.expr_meaning.specs.World.{World}
+use Rattle.expr_stops.specs.Turns.{IfEnded, IsPending, ReachesBy, StopsWithin, limits_of}
 use Rattle.expr_stops.specs.declared.turns.PendingRun.{PendingRun}
 use Rattle.expr_stops.specs.declared.turns.Reached.{Reached}
 use Rattle.expr_stops.specs.declared.turns.Reached.TheVariants as reached
@@ -44,7 +46,7 @@ abbrev inputs_by : Option Rule → Option (Option Additions) → Option NamedVal
 inputs_by rule added names limits =
     option_and_then (λ rule. option_and_then (λ added. option_map (λ names. record { rule = rule; added = added; names = names; limits = limits }) names) added) rule
 
-abbrev inputs_in : Engine → Rule → Option Additions → NamedValues → RunInputs
+abbrev pub inputs_in : Engine → Rule → Option Additions → NamedValues → RunInputs
 inputs_in engine rule added names = record { rule = rule; added = added; names = names; limits = engine.limits }
 
 pub found_so : (engine : Engine) (program environment context : Handle) (rule : Rule) (added : Option Additions) (names : NamedValues) → Some rule ≡ thing_at engine.rules program → additions_at engine environment ≡ Some added → names_at engine context ≡ Some names
@@ -80,6 +82,37 @@ where_none o N P none n = subst (λ (x : Option RunInputs). MatchOption x N P) (
 
 pub where_some : (o : Option RunInputs) (q : RunInputs) (N : Type 0) (P : RunInputs → Type 0) → o ≡ Some q → P q → MatchOption o N P
 where_some o q N P is p = subst (λ (x : Option RunInputs). MatchOption x N P) (sym is) p
+
+-- a run that waits finds its environment and its context
+never_none : (o : Option RunInputs) (rule : Rule) → IsSome (option_map (λ (q : RunInputs). record q { rule = rule }) o) → o ≡ None → ⊥
+never_none None rule some none = false≢true some
+never_none (Some q) rule some none = let no : ⊥ = cc none in no
+
+pub host_found : (engine : Engine) (waits : WaitingRun) (rule : Rule) → IsSome (waiting_inputs engine waits rule) → additions_at engine waits.environment ≡ None → ⊥
+host_found engine waits rule some none = never_none (run_inputs engine waits.program waits.environment waits.context) rule some (no_host_found engine waits.program waits.environment waits.context none)
+
+pub names_found : (engine : Engine) (waits : WaitingRun) (rule : Rule) → IsSome (waiting_inputs engine waits rule) → names_at engine waits.context ≡ None → ⊥
+names_found engine waits rule some none = never_none (run_inputs engine waits.program waits.environment waits.context) rule some (no_names_found engine waits.program waits.environment waits.context none)
+
+-- and so it finds these in its rule
+finds_in : (r : Option Rule) (rule : Rule) (a : Option (Option Additions)) (n : Option NamedValues) (l : Option Limits) (added : Option Additions) (names : NamedValues) → IsSome (option_map (λ (q : RunInputs). record q { rule = rule }) (inputs_by r a n l)) → a ≡ Some added → n ≡ Some names
+    → option_map (λ (q : RunInputs). record q { rule = rule }) (inputs_by r a n l) ≡ Some (record { rule = rule; added = added; names = names; limits = l })
+finds_in None rule a n l added names some is so = absurd (false≢true some)
+finds_in (Some was) rule a n l added names some is so =
+    ap (λ (o : Option (Option Additions)). option_map (λ (q : RunInputs). record q { rule = rule }) (inputs_by (Some was) o n l)) is
+    ∙ ap (λ (o : Option NamedValues). option_map (λ (q : RunInputs). record q { rule = rule }) (inputs_by (Some was) (Some added) o l)) so
+
+pub waiting_so : (engine : Engine) (waits : WaitingRun) (rule : Rule) (added : Option Additions) (names : NamedValues) → IsSome (waiting_inputs engine waits rule) → additions_at engine waits.environment ≡ Some added → names_at engine waits.context ≡ Some names
+    → waiting_inputs engine waits rule ≡ Some (inputs_in engine rule added names)
+waiting_so engine waits rule added names some is so = finds_in (thing_at engine.rules waits.program) rule (additions_at engine waits.environment) (names_at engine waits.context) engine.limits added names some is so
+
+pub where_so : (o : Option RunInputs) (q : RunInputs) (P : RunInputs → Type 0) → o ≡ Some q → P q → IsSomeAnd o P
+where_so o q P is p = subst (λ (x : Option RunInputs). IsSomeAnd x P) (sym is) p
+
+-- a run that waits may be given a reply
+pub pending_so : (world : World) (blocks : List (List Op)) (before : Allowed) (r : Reached) → ReachesBy world blocks before r → IfWaits r (IsPending blocks)
+pending_so world blocks before (reached.Ended result) p = tt
+pending_so world blocks before (reached.Asks pending) p = p.waits
 
 -- how far a turn came in its rule
 pub turn_reaches : (q : RunInputs) (before : Allowed) (r : Reached) (done : Result TurnEnd HostError) → ReachesBy (world_of_run q) (owned_blocks q.rule.code) before r → EndsTurn q.rule r done → TurnReaches q before done
@@ -185,7 +218,7 @@ lacking_serves q (Asks run) value m = absurd m
 lacking_serves q (Stopped limit) value m = absurd m
 
 -- an error is passed on as it is
-pub err_is : (r : Result (Unit {0}) HostError) (e : HostError) → IsErrAnd r (λ x. x ≡ e) → r ≡ Err e
+pub err_is : {A : Type 0} (r : Result A HostError) (e : HostError) → IsErrAnd r (λ x. x ≡ e) → r ≡ Err e
 err_is (Ok v) e is = absurd is
 err_is (Err x) e is = ap (λ (y : HostError). Err y) is
 
@@ -205,6 +238,29 @@ pub run_lacks_so : (o : Option RunInputs) (N : Type 0) (used : Used) (e : HostEr
     → MatchOption o (done ≡ Err Unknown) (λ q. RunServes q done value)
 run_lacks_so None N used e done value is m n = is ∙ ap (λ (x : HostError). Err x) (n m)
 run_lacks_so (Some q) N used e done value is m n = subst (λ (d : Result (Unit {0}) HostError). RunServes q d value) (sym is) (lacking_serves q e value m.0)
+
+-- a run that would wait has no handle, since memory lacks
+pub run_unkept : (o : Option RunInputs) (N : Type 0) (old : Engine) (new : RestOfEngine) (program environment context : Handle) (pending : PendingView) (used : Used) (done : Result (Unit {0}) HostError) (value : Value)
+    → (N → ⊥) → MatchOption o N (λ q. TurnReaches q (MayEnd q) (Ok (came.Waits pending)) × UsesWithin q.limits used) → IsErrAnd done (λ x. x ≡ Language MemoryError) → SameThings old.runs new.runs → new.used ≡ used
+    → MatchOption o (SameRuns old new) (λ q. StartsRun q program environment context old new done value)
+run_unkept None N old new program environment context pending used done value never m is same u = absurd (never m)
+run_unkept (Some q) N old new program environment context pending used done value never m is same u =
+    subst (λ (d : Result (Unit {0}) HostError). StartsRun q program environment context old new d value) (sym (err_is done (Language MemoryError) is)) (record {
+      turn = λ other. absurd (other refl);
+      runs = same;
+      used = subst (λ (x : Used). UsesWithin q.limits x) (sym u) m.1;
+    })
+
+pub run_unkept_so : (o : Option RunInputs) (N : Type 0) (pending : PendingView) (used : Used) (done : Result (Unit {0}) HostError) (value : Value) → (N → ⊥) → MatchOption o N (λ q. TurnReaches q (MayEnd q) (Ok (came.Waits pending)) × UsesWithin q.limits used)
+    → IsErrAnd done (λ x. x ≡ Language MemoryError) → MatchOption o (done ≡ Err Unknown) (λ q. RunServes q done value)
+run_unkept_so None N pending used done value never m is = absurd (never m)
+run_unkept_so (Some q) N pending used done value never m is =
+    subst (λ (d : Result (Unit {0}) HostError). RunServes q d value) (sym (err_is done (Language MemoryError) is)) (λ other. absurd (other refl))
+
+pub run_waits_so : (o : Option RunInputs) (N : Type 0) (pending : PendingView) (used : Used) (handle : Handle) (done : Result (Unit {0}) HostError) (value : Value) → (N → ⊥) → MatchOption o N (λ q. TurnReaches q (MayEnd q) (Ok (came.Waits pending)) × UsesWithin q.limits used)
+    → done ≡ Err (Asks handle) → MatchOption o (done ≡ Err Unknown) (λ q. RunServes q done value)
+run_waits_so None N pending used handle done value never m is = absurd (never m)
+run_waits_so (Some q) N pending used handle done value never m is = subst (λ (d : Result (Unit {0}) HostError). RunServes q d value) (sym is) tt
 
 -- what holds of a thing gives what else does
 some_so : {A : Type 0} (o : Option A) (P Q : A → Type 0) → ((a : A) → P a → Q a) → IsSomeAnd o P → IsSomeAnd o Q

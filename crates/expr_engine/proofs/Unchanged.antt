@@ -109,7 +109,7 @@ leaves k a = record { kept = k; look = record { whole = ap whole_value a; way = 
 no_less : (a b : ℕ) → b ≡ a → a ≤ b
 no_less a b e = omega arith
 
-rises_same : {T : Type 0} (old new : HandleMap T) → SameNext old new → Rises old new
+pub rises_same : {T : Type 0} (old new : HandleMap T) → SameNext old new → Rises old new
 rises_same old new (tag, next) = (tag, no_less _ _ next)
 
 same_next : {T : Type 0} (old new : HandleMap T) → new ≡ old → SameNext old new
@@ -119,7 +119,11 @@ same_next old new e = (ap (λ k. tag_of k) e, ap (λ k. next_number k) e)
 pub same_runs : (old new : Engine) → KeepsRest old new → SameRuns old (rest_of_engine new)
 same_runs old new s = record { runs = λ h. ap (λ (x : RestOfEngine). thing_at x.runs h) s; used = ap (λ (x : RestOfEngine). x.used) s }
 
-runs_rise : (old new : Engine) → KeepsRest old new → Rises old.runs new.runs
+-- part by part
+pub runs_same : (old new : Engine) → new.runs ≡ old.runs → new.used ≡ old.used → SameRuns old (rest_of_engine new)
+runs_same old new r u = record { runs = λ h. ap (λ k. thing_at k h) r; used = u }
+
+pub runs_rise : (old new : Engine) → KeepsRest old new → Rises old.runs new.runs
 runs_rise old new s = rises_same old.runs new.runs (same_next _ _ (ap (λ (x : RestOfEngine). x.runs) s))
 
 pub numbers_same : {old new : Engine} → SameNext old.rules new.rules → SameNext old.contexts new.contexts → SameNext old.environments new.environments → Rises old.runs new.runs → NumbersRise old new
@@ -218,6 +222,9 @@ numbers_things old new k w = numbers_same (same_next _ _ (ap (λ (x : Kept). x.r
 pub numbers_kept : (old new : Engine) → KeepsThings old new → KeepsRest old new → NumbersRise old new
 numbers_kept old new k s = numbers_things old new k (runs_rise old new s)
 
+pub numbers_by_runs : (old new : Engine) → KeepsThings old new → new.runs ≡ old.runs → NumbersRise old new
+numbers_by_runs old new k r = numbers_things old new k (rises_same old.runs new.runs (same_next _ _ r))
+
 pub numbers_by_rules : {old new : Engine} → SameNext old.rules new.rules → new.contexts ≡ old.contexts → new.environments ≡ old.environments → KeepsRest old new → NumbersRise old new
 numbers_by_rules {old} {new} r c e s = numbers_same r (same_next _ _ c) (same_next _ _ e) (runs_rise old new s)
 
@@ -226,6 +233,14 @@ numbers_by_contexts {old} {new} r c e s = numbers_same (same_next _ _ r) c (same
 
 pub numbers_by_environments : {old new : Engine} → new.rules ≡ old.rules → new.contexts ≡ old.contexts → SameNext old.environments new.environments → KeepsRest old new → NumbersRise old new
 numbers_by_environments {old} {new} r c e s = numbers_same (same_next _ _ r) (same_next _ _ c) e (runs_rise old new s)
+
+pub numbers_from_rules : (old new : Engine) → Rises old.rules new.rules → new.contexts ≡ old.contexts → new.environments ≡ old.environments → KeepsRest old new → NumbersRise old new
+numbers_from_rules old new r c e s = record {
+  rules = r;
+  contexts = rises_same old.contexts new.contexts (same_next old.contexts new.contexts c);
+  environments = rises_same old.environments new.environments (same_next old.environments new.environments e);
+  runs = runs_rise old new s;
+}
 
 -- what a failed call leaves: everything, or that where one of the three finds the same things
 pub left_same : {A E : Type 0} (old new : Engine) (r : Result A E) → KeepsThings old new → KeepsRest old new → OnErr r (Leaves old new)

@@ -1,5 +1,6 @@
 -- Runs that wait for a host's reply.
-use Rattle.std.specs.Prelude.{◌≡◌, ◌≢◌, ◌⊎◌, ℕ, List, [], ◌∷◌, ◌++◌, Option, None, Some, IsSomeAnd, MatchOption, Result, Ok, Err, option_map, string_bytes}
+use Rattle.std.specs.Prelude.{◌≡◌, ◌≢◌, ◌⊎◌, ◌&&◌, ℕ, Bool, List, [], ◌∷◌, ◌++◌, Option, None, Some, IsSomeAnd, MatchOption, Result, Ok, Err, nat_eq, option_map, string_bytes}
+use Rattle.std.specs.Option.{option_eq}
 use Rattle.expr_engine.specs.Engines.{MayEnd, RestOfEngine, RunInputs, run_inputs, world_of_run}
 use Rattle.expr_engine.specs.Runs.{MeaningAllows}
 use Rattle.expr_engine.specs.Effects.{Adds, Changes, IsStale, LetsGo}
@@ -43,9 +44,13 @@ use Rattle.expr_value.specs.declared.value.Value.{Value}
 abbrev pub seen_at : Engine → Handle → Handle → Seen
 seen_at engine environment context = record { environment = changes_at engine.environments environment; context = changes_at engine.contexts context }
 
+-- whether they were changed as often
+abbrev pub is_same_seen : Seen → Seen → Bool
+is_same_seen a b = option_eq nat_eq a.environment b.environment && option_eq nat_eq a.context b.context
+
 -- what a run that waits in a rule finds under its handles
 abbrev pub waiting_inputs : Engine → WaitingRun → Rule → Option RunInputs
-waiting_inputs engine waits rule = option_map (λ q. record q { rule = rule }) (run_inputs engine waits.program waits.environment waits.context)
+waiting_inputs engine waits rule = option_map (λ (q : RunInputs). record q { rule = rule }) (run_inputs engine waits.program waits.environment waits.context)
 
 -- A run waits under this handle, its handles find something, and nothing was changed meanwhile.
 pub record MayGoOn (engine : Engine) (run : Handle) (waits : WaitingRun) : Type 0 where
@@ -61,11 +66,11 @@ abbrev pub HasChanged : Engine → Handle → Type 0
 HasChanged engine run = IsSomeAnd (thing_at engine.runs run) (λ waits. seen_at engine waits.environment waits.context ≢ waits.seen)
 
 -- A run that waits belongs to these handles, and has come to what this allows.
-pub record IsWaitingRun (q : RunInputs) (before : Allowed) (program environment context : Handle) (seen : Seen) (waits : WaitingRun) : Type 0 where
-  pub program : waits.program ≡ program
-  pub environment : waits.environment ≡ environment
-  pub context : waits.context ≡ context
-  pub seen : waits.seen ≡ seen
+pub record IsWaitingRun (q : RunInputs) (before : Allowed) (of_rule in_host in_names : Handle) (then_seen : Seen) (waits : WaitingRun) : Type 0 where
+  pub program : waits.program ≡ of_rule
+  pub environment : waits.environment ≡ in_host
+  pub context : waits.context ≡ in_names
+  pub seen : waits.seen ≡ then_seen
   pub pending : PendingView
   pub is : waits.pending ≡ Some pending
   pub rule : pending.rule ≡ q.rule

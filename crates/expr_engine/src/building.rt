@@ -1,14 +1,14 @@
 //! Calls that pass values in.
-ghost use Rattle.expr_engine.specs.Promised.{Acts};
-ghost use Rattle.expr_exchange.specs.declared.call.Ask.TheVariants as is;
-ghost use Rattle.expr_exchange.specs.declared.call.Call.{Call};
-ghost use Rattle.std.specs.Prelude.{◌≡◌, ◌≢◌, IfErr, IfOk, IsSomeAnd, Ok};
+ghost use Rattle.std.specs.Prelude.{◌≡◌, ◌≢◌, ◌⊎◌, ◌+ℤ◌, IfErr, IfOk, IsSomeAnd, Ok, OnOk};
 ghost use Rattle.expr_encoding.specs.Optional.{value_or_refusal};
 ghost use Rattle.expr_encoding.specs.Reading.{json_value};
-ghost use Rattle.expr_engine.specs.Effects.{HandsIn};
-ghost use Rattle.expr_engine.specs.Engines.{KeepsRest};
+ghost use Rattle.expr_engine.specs.Effects.{HandsIn, MakesArray, MakesMap, PushesValue, Unbuilds};
+ghost use Rattle.expr_engine.specs.Engines.{KeepsThings, KeepsRest};
 ghost use Rattle.expr_engine.specs.Reasons.{HandsNothingIn, JsonRefuses, KindRefuses};
+ghost use Rattle.expr_exchange.specs.Builder.{HasLast, values_of};
 ghost use Rattle.expr_exchange.specs.Kinds.{kind_numbered};
+ghost use Rattle.expr_exchange.specs.Refusals.{IsForMemory, NotMeant, status_of};
+ghost use Rattle.expr_exchange.specs.declared.host_error.Status.TheVariants.{Evaluation};
 
 use crate::engine::Engine;
 use crate::running::utf8;
@@ -70,7 +70,11 @@ fn read_json(alloc: Global, reader: &mut JsonReader, text: &[u8]) -> Result<Valu
 
 /// Adds the value that a call passes in to the values being built.
 pub fn push(engine: &mut Engine, call: &Call<'_>) -> Result<(), HostError>
-    ensures { Acts is.Push engine.old engine.new call.now call.now result }
+    ensures done { OnOk result (PushesValue engine.old engine.new call.now) }
+    ensures found { IfErr result (λ e. e ≢ HostError.Unknown) }
+    ensures kept { KeepsThings engine.old engine.new }
+    ensures rest { KeepsRest engine.old engine.new }
+    ensures why { IfErr result (λ e. IsForMemory e ⊎ HandsNothingIn engine.old call.now e) }
 {
     let value = value_of_call(engine, call)?;
     engine.built.push(value)
@@ -78,21 +82,34 @@ pub fn push(engine: &mut Engine, call: &Call<'_>) -> Result<(), HostError>
 
 /// Makes an array of the values that were built last.
 pub fn make_array(engine: &mut Engine, call: &Call<'_>) -> Result<(), HostError>
-    ensures { Acts is.Array engine.old engine.new call.now call.now result }
+    ensures done { OnOk result (MakesArray engine.old engine.new call.now) }
+    ensures found { IfErr result (λ e. e ≢ HostError.Unknown) }
+    ensures kept { KeepsThings engine.old engine.new }
+    ensures rest { KeepsRest engine.old engine.new }
+    ensures why { IfErr result (NotMeant (HasLast call.now.number (values_of engine.old.built))) }
 {
     engine.built.array(call.number)
 }
 
 /// Makes a map of the pairs that were built last.
 pub fn make_map(engine: &mut Engine, call: &Call<'_>) -> Result<(), HostError>
-    ensures { Acts is.Map engine.old engine.new call.now call.now result }
+    ensures done { OnOk result (MakesMap engine.old engine.new call.now) }
+    ensures found { IfErr result (λ e. e ≢ HostError.Unknown) }
+    ensures kept { KeepsThings engine.old engine.new }
+    ensures rest { KeepsRest engine.old engine.new }
+    ensures why { IfErr result (λ e. status_of e ≢ Evaluation
+        → NotMeant (HasLast (call.now.number +ℤ call.now.number) (values_of engine.old.built)) e) }
 {
     engine.built.map(call.number)
 }
 
 /// Drops the values being built.
 pub fn unbuild(engine: &mut Engine) -> Result<(), HostError>
-    ensures { (call : Call) → Acts is.Unbuild engine.old engine.new call call result }
+    ensures done { OnOk result (Unbuilds engine.old engine.new) }
+    ensures found { IfErr result (λ e. e ≢ HostError.Unknown) }
+    ensures kept { KeepsThings engine.old engine.new }
+    ensures rest { KeepsRest engine.old engine.new }
+    ensures why { IfErr result (λ _. ⊥) }
 {
     engine.built.clear();
     Ok(())

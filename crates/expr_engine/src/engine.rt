@@ -1,10 +1,10 @@
 //! An engine: programs, contexts, environments and runs that wait for a host's reply, all under handles; the values
 //! being built, the last result, and the last message.
-ghost use Rattle.std.specs.Prelude.{◌≡◌, [], Ok, string_bytes, IfOk, IfErr, OnOk, OnErr, IfSome, IsOk, IsNone, MatchOption, Err, None, Some, ◌⊎◌};
+ghost use Rattle.std.specs.Prelude.{◌≡◌, [], Ok, string_bytes, IfOk, IfErr, OnOk, OnErr, IfSome, IsOk, IsNone, IsSome, IsSomeAnd, MatchOption, Err, None, Some, ◌⊎◌};
 ghost use Rattle.std.specs.List.{Contains};
 ghost use Rattle.std.specs.Option.{option_copied};
 ghost use Rattle.expr_engine.specs.Adding.{BecomesByRule, BecomesFixed, BecomesNow, GainsName, GainsVersions, IsName};
-ghost use Rattle.expr_engine.specs.Effects.{Adds, AreSaid, Changes, FillsContext, ForgetsAll, IsStale, IsTextOf, TakesLast, TellsWhether};
+ghost use Rattle.expr_engine.specs.Effects.{Adds, AreSaid, Changes, FillsContext, ForgetsAll, IsStale, IsTextOf, TakesLast, TellsWhether, waiting_call};
 ghost use Rattle.expr_engine.specs.Engines.{IsPlacedRefusal, KeepsThings, KeepsRest, MayEnd, NumbersRise, RefusesText, SameAdditions, additions_at, names_at, rest_of_engine, run_inputs};
 ghost use Rattle.expr_engine.specs.Faults.{IsNotedAt, fault_byte, refused_byte};
 ghost use Rattle.expr_engine.specs.Limiting.{IsProgramBy};
@@ -36,7 +36,7 @@ use expr_encoding::JsonReader;
 use expr_exchange::{Handle, HandleMap, HostError, Misuse, ValueBuilder, ValueCursor, limit_text};
 use expr_limits::{Limits, Outcome};
 use expr_lowering::with_nil;
-use expr_stops::{Reached, Turn, Used};
+use expr_stops::{ExprCall, Reached, Turn, Used};
 use expr_syntax::line_column_of;
 use expr_value::{Error, Value};
 use jiff::Timestamp;
@@ -319,7 +319,8 @@ impl Engine {
         let mut used = self.used;
         let begun = self.begin(program, environment, context, &mut used);
         self.used = used;
-        match begun? {
+        let reached = begun?;
+        match reached {
             TurnEnd::Ended(ended) => self.end(ended),
             TurnEnd::Waits(pending) => {
                 let seen = self.seen_now(environment, context);
@@ -347,7 +348,8 @@ impl Engine {
         ensures built { self.new.built ≡ self.old.built }
         ensures limits { self.new.limits ≡ self.old.limits }
     {
-        match ended? {
+        let outcome = ended?;
+        match outcome {
             Outcome::Answered(value) => {
                 self.answer.keep(value);
                 Ok(())
@@ -374,10 +376,21 @@ impl Engine {
             return Err(HostError::Unknown);
         }
         self.knows_run(waits.program, waits.environment, waits.context)?;
-        if self.seen_now(waits.environment, waits.context) != waits.seen {
-            return Err(HostError::Misuse(Misuse::ChangedMeanwhile));
+        let seen = self.seen_now(waits.environment, waits.context);
+        if seen.is_same(&waits.seen) {
+            Ok(waits)
+        } else {
+            Err(HostError::Misuse(Misuse::ChangedMeanwhile))
         }
-        Ok(waits)
+    }
+
+    /// The call at which a run waits.
+    pub fn call_of(&self, run: Handle) -> Option<&ExprCall>
+        ensures { option_copied result ≡ waiting_call self.now run }
+    {
+        let waits = self.runs.get(run)?;
+        let pending = waits.pending.as_ref()?;
+        Some(pending.run.call())
     }
 
     /// Replies with the value that was built last to the call at which a run waits, and continues the run.
@@ -397,7 +410,7 @@ impl Engine {
         ensures built { OnOk result (TakesLast (values_of self.old.built) (values_of self.new.built)) }
         ensures limits { self.new.limits ≡ self.old.limits }
     {
-        let _waits = self.waiting_run(run)?;
+        self.waiting_run(run)?;
         let value = self.built.pop()?;
         let mut going = WaitingRun::nothing();
         let _known = self.runs.swap(run, &mut going);
@@ -405,7 +418,7 @@ impl Engine {
             return Err(HostError::Unknown);
         };
         let mut used = self.used;
-        let reached = self.go_on(&going, pending, value, &mut used)?;
+        let reached = self.go_on(&going, pending, value, &mut used);
         self.used = used;
         match reached {
             TurnEnd::Ended(ended) => {
@@ -420,7 +433,7 @@ impl Engine {
         }
     }
 
-    /// Continues a run with the host's reply.
+    /// Continues a run with the host's reply. Its handles find something.
     #[inline(always)]
     fn go_on(
         &self,
@@ -428,23 +441,28 @@ impl Engine {
         pending: PendingRule,
         value: Value,
         used: &mut Used,
-    ) -> Result<TurnEnd, HostError>
-        ensures turn { MatchOption (waiting_inputs self.now waits.now pending.rule) (Unit {0})
-            (λ q. TurnReaches q (MayEndWith q pending.run value) result
+    ) -> TurnEnd
+        requires { IsSome (waiting_inputs self.now waits.now pending.rule) }
+        ensures { IsSomeAnd (waiting_inputs self.now waits.now pending.rule)
+            (λ q. TurnReaches q (MayEndWith q pending.run value) (Ok result)
             × UsesWithin (limits_of pending.run) used.new) }
     {
-        let host = self.host_of(waits.environment)?;
-        let names = self.names_of(waits.context)?;
+        let Ok(host) = self.host_of(waits.environment) else {
+            unreachable!()
+        };
+        let Ok(names) = self.names_of(waits.context) else {
+            unreachable!()
+        };
         let PendingRule { rule, run } = pending;
         let Turn {
             reached,
             used: took,
         } = rule.get().reply(self.alloc, host, names, run, value);
         *used = took;
-        Ok(match reached {
+        match reached {
             Reached::Ended(ended) => TurnEnd::Ended(ended),
             Reached::Asks(run) => TurnEnd::Waits(PendingRule { rule, run }),
-        })
+        }
     }
 
     /// Ends a run that waits with an error, as the function fails at whose call it waits.
@@ -461,7 +479,7 @@ impl Engine {
         ensures built { self.new.built ≡ self.old.built }
         ensures limits { self.new.limits ≡ self.old.limits }
     {
-        let _waits = self.waiting_run(run)?;
+        self.waiting_run(run)?;
         let _known = self.runs.remove(run);
         Err(HostError::Language(error))
     }

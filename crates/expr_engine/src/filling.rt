@@ -1,7 +1,11 @@
 //! Calls about contexts.
-ghost use Rattle.expr_engine.specs.Promised.{Acts};
-ghost use Rattle.expr_exchange.specs.declared.call.Ask.TheVariants as is;
-ghost use Rattle.expr_engine.specs.Effects.{Sets};
+ghost use Rattle.std.specs.Prelude.{◌≡◌, ◌≢◌, ◌⊎◌, Err, IfErr, IsUtf8, None, OnErr, OnOk};
+ghost use Rattle.expr_engine.specs.Effects.{AddsBuiltContext, AddsContext, FillsMissing, Sets, call_result};
+ghost use Rattle.expr_engine.specs.Engines.{KeepsRest, NumbersRise};
+ghost use Rattle.expr_engine.specs.Reasons.{HandsNothingIn, IsUnknownOrForMemory};
+ghost use Rattle.expr_exchange.specs.Builder.{NoContext, values_of};
+ghost use Rattle.expr_exchange.specs.Refusals.{IsForMemory};
+ghost use Rattle.expr_exchange.specs.HandleMap.{SameNext, SameThings, thing_at};
 
 use crate::building::value_of_call;
 use crate::engine::Engine;
@@ -11,7 +15,15 @@ use expr_exchange::{Call, HostError, Misuse};
 
 /// Makes a context without names.
 pub fn new_context(engine: &mut Engine, call: &mut Call<'_>) -> Result<(), HostError>
-    ensures { Acts is.Context engine.old engine.new call.old call.new result }
+    ensures done { OnOk result (AddsContext engine.old engine.new (call_result call.new)) }
+    ensures found { IfErr result (λ e. e ≢ HostError.Unknown) }
+    ensures err { OnErr result (SameThings engine.old.contexts engine.new.contexts) }
+    ensures numbers { NumbersRise engine.old engine.new }
+    ensures rules { engine.new.rules ≡ engine.old.rules }
+    ensures environments { engine.new.environments ≡ engine.old.environments }
+    ensures rest { KeepsRest engine.old engine.new }
+    ensures room { call.new.room.now ≡ call.old.room.now }
+    ensures why { IfErr result IsForMemory }
 {
     call.context = engine.contexts.put(Context::new(engine.alloc))?;
     Ok(())
@@ -19,7 +31,15 @@ pub fn new_context(engine: &mut Engine, call: &mut Call<'_>) -> Result<(), HostE
 
 /// Makes a context of the map that was built last.
 pub fn built_context(engine: &mut Engine, call: &mut Call<'_>) -> Result<(), HostError>
-    ensures { Acts is.ContextOf engine.old engine.new call.old call.new result }
+    ensures done { OnOk result (AddsBuiltContext engine.old engine.new (call_result call.new)) }
+    ensures found { IfErr result (λ e. e ≢ HostError.Unknown) }
+    ensures err { OnErr result (SameThings engine.old.contexts engine.new.contexts) }
+    ensures numbers { NumbersRise engine.old engine.new }
+    ensures rules { engine.new.rules ≡ engine.old.rules }
+    ensures environments { engine.new.environments ≡ engine.old.environments }
+    ensures rest { KeepsRest engine.old engine.new }
+    ensures room { call.new.room.now ≡ call.old.room.now }
+    ensures why { IfErr result (NoContext (values_of engine.old.built)) }
 {
     let context = engine.built.context()?;
     call.context = engine.contexts.put(context)?;
@@ -28,7 +48,16 @@ pub fn built_context(engine: &mut Engine, call: &mut Call<'_>) -> Result<(), Hos
 
 /// Sets a name in a context.
 pub fn set(engine: &mut Engine, call: &Call<'_>) -> Result<(), HostError>
-    ensures { Acts is.Set engine.old engine.new call.now call.now result }
+    ensures done { OnOk result (Sets engine.old engine.new call.now) }
+    ensures unknown { thing_at engine.old.contexts call.now.context ≡ None → result ≡ Err HostError.Unknown }
+    ensures known { result ≡ Err HostError.Unknown → thing_at engine.old.contexts call.now.context ≡ None }
+    ensures err { OnErr result (SameThings engine.old.contexts engine.new.contexts) }
+    ensures next { SameNext engine.old.contexts engine.new.contexts }
+    ensures rules { engine.new.rules ≡ engine.old.rules }
+    ensures environments { engine.new.environments ≡ engine.old.environments }
+    ensures rest { KeepsRest engine.old engine.new }
+    ensures why { IfErr result (λ e. ((e ≡ HostError.Misuse Misuse.NotUtf8) × (IsUtf8 call.now.name.now → ⊥))
+        ⊎ (IsUnknownOrForMemory e ⊎ HandsNothingIn engine.old call.now e)) }
 {
     engine.knows_context(call.context)?;
     let name = utf8(call.name)?;
@@ -38,7 +67,18 @@ pub fn set(engine: &mut Engine, call: &Call<'_>) -> Result<(), HostError>
 
 /// Sets nil in a context for each missing name that a program looks up only outside of predicates.
 pub fn fill_missing(engine: &mut Engine, call: &mut Call<'_>) -> Result<(), HostError>
-    ensures { Acts is.FillMissing engine.old engine.new call.old call.new result }
+    ensures done { OnOk result (FillsMissing engine.old engine.new call.old (call_result call.new)) }
+    ensures unknown { (thing_at engine.old.rules call.old.program ≡ None)
+        ⊎ (thing_at engine.old.contexts call.old.context ≡ None) → result ≡ Err HostError.Unknown }
+    ensures known { result ≡ Err HostError.Unknown → (thing_at engine.old.rules call.old.program ≡ None)
+        ⊎ (thing_at engine.old.contexts call.old.context ≡ None) }
+    ensures err { OnErr result (SameThings engine.old.contexts engine.new.contexts) }
+    ensures next { SameNext engine.old.contexts engine.new.contexts }
+    ensures rules { engine.new.rules ≡ engine.old.rules }
+    ensures environments { engine.new.environments ≡ engine.old.environments }
+    ensures rest { KeepsRest engine.old engine.new }
+    ensures room { call.new.room.now ≡ call.old.room.now }
+    ensures why { IfErr result IsUnknownOrForMemory }
 {
     let count = engine.fill_missing(call.program, call.context)?;
     call.number = i64::try_from(count).unwrap_or(0);

@@ -1,9 +1,10 @@
 //! Calls about limits.
-ghost use Rattle.expr_engine.specs.Promised.{Acts};
-ghost use Rattle.expr_exchange.specs.declared.call.Ask.TheVariants as is;
-ghost use Rattle.expr_exchange.specs.declared.call.Call.{Call};
-ghost use Rattle.std.specs.Prelude.{◌≡◌, pos, None, Ok, Some};
-ghost use Rattle.expr_engine.specs.Limiting.{most_told, used_asked, with_limit};
+ghost use Rattle.std.specs.Prelude.{◌≡◌, ◌≢◌, pos, IfErr, IsErrAnd, MatchOption, None, Ok, OnOk, Some};
+ghost use Rattle.expr_engine.specs.Effects.{LetsGoOfLimits, SetsLimit, TellsUsed, call_result};
+ghost use Rattle.expr_engine.specs.Engines.{KeepsThings};
+ghost use Rattle.expr_engine.specs.Limiting.{limits_asked, most_told, used_asked, with_limit};
+ghost use Rattle.expr_engine.specs.Reasons.{NothingIsCounted};
+ghost use Rattle.expr_exchange.specs.Refusals.{IsMisuse};
 
 use crate::engine::Engine;
 use expr_exchange::{Call, HostError, Misuse, limit_numbered};
@@ -12,7 +13,16 @@ use expr_stops::Used;
 
 /// Sets the limit of a number. If there were no limits, the others become those for untrusted expressions.
 pub fn set_limit(engine: &mut Engine, call: &Call<'_>) -> Result<(), HostError>
-    ensures { Acts is.Limit engine.old engine.new call.now call.now result }
+    ensures done { OnOk result (SetsLimit engine.old engine.new call.now) }
+    ensures set { MatchOption (limits_asked engine.old.limits call.now.kind call.now.number)
+        ((IsErrAnd result IsMisuse) × (engine.new.limits ≡ engine.old.limits))
+        (λ limits. (result ≡ Ok tt) × (engine.new.limits ≡ Some limits)) }
+    ensures found { IfErr result (λ e. e ≢ HostError.Unknown) }
+    ensures kept { KeepsThings engine.old engine.new }
+    ensures answer { engine.new.answer ≡ engine.old.answer }
+    ensures runs { engine.new.runs ≡ engine.old.runs }
+    ensures used { engine.new.used ≡ engine.old.used }
+    ensures why { IfErr result IsMisuse }
 {
     let Some(limit) = limit_numbered(call.kind) else {
         return Err(HostError::Misuse(Misuse::UnknownLimit));
@@ -55,7 +65,15 @@ fn with_limit(limits: Limits, limit: Limit, number: u64) -> Limits
 
 /// Removes all limits.
 pub fn let_go_of_limits(engine: &mut Engine) -> Result<(), HostError>
-    ensures { (call : Call) → Acts is.Unlimited engine.old engine.new call call result }
+    ensures done { OnOk result (LetsGoOfLimits engine.old engine.new) }
+    ensures ok { result ≡ Ok tt }
+    ensures found { IfErr result (λ e. e ≢ HostError.Unknown) }
+    ensures none { engine.new.limits ≡ None }
+    ensures kept { KeepsThings engine.old engine.new }
+    ensures answer { engine.new.answer ≡ engine.old.answer }
+    ensures runs { engine.new.runs ≡ engine.old.runs }
+    ensures used { engine.new.used ≡ engine.old.used }
+    ensures why { IfErr result (λ _. ⊥) }
 {
     engine.limits = None;
     Ok(())
@@ -63,7 +81,10 @@ pub fn let_go_of_limits(engine: &mut Engine) -> Result<(), HostError>
 
 /// Returns how much of the limit of a number the last run used.
 pub fn tell_used(engine: &Engine, call: &mut Call<'_>) -> Result<(), HostError>
-    ensures { Acts is.Used engine.now engine.now call.old call.new result }
+    ensures done { OnOk result (TellsUsed engine.now call.old (call_result call.new)) }
+    ensures found { IfErr result (λ e. e ≢ HostError.Unknown) }
+    ensures room { call.new.room.now ≡ call.old.room.now }
+    ensures why { IfErr result (NothingIsCounted engine.now call.old) }
 {
     let Some(count) = used_of_limit(engine.used, call.kind) else {
         return Err(HostError::Misuse(Misuse::UnknownLimit));

@@ -181,15 +181,26 @@ fn refuse(engine: &mut Engine, refused: &HostError, call: &mut Call<'_>) -> Stat
         → (result ≡ Status.Asks) × (call.new.run ≡ run) }
 {
     engine.built.clear();
-    if let HostError::Asks(run) = refused {
-        call.run = *run;
-    }
+    mark_run(call, refused);
     match engine.note(refused, call.text) {
         Ok(noted) => {
             mark(call, noted);
             refused.status()
         }
         Err(_) => Status::Memory,
+    }
+}
+
+/// Writes the handle of the run into a call, if a run waits for the host's reply.
+fn mark_run(call: &mut Call<'_>, refused: &HostError)
+    ensures run { (run : Handle) → refused.now ≡ HostError.Asks run → call.new.run ≡ run }
+    ensures reply { call_result call.new ≡ call_result call.old }
+    ensures room { call.new.room.now ≡ call.old.room.now }
+    ensures text { call.new.text.now ≡ call.old.text.now }
+{
+    match refused {
+        HostError::Asks(run) => call.run = *run,
+        _ => {}
     }
 }
 

@@ -51,10 +51,21 @@ pub enum TurnEnd {
 }
 
 /// How often the things of a run had been changed.
-#[derive(Clone, Copy, PartialEq, Eq)]
+#[derive(Clone, Copy)]
 pub struct Seen {
     pub environment: Option<u64>,
     pub context: Option<u64>,
+}
+
+impl Seen {
+    ghost use Rattle.expr_engine.specs.Turns.{is_same_seen};
+
+    /// Whether both are the same.
+    pub fn is_same(&self, other: &Seen) -> bool
+        ensures { result ≡ is_same_seen self.now other.now }
+    {
+        self.environment == other.environment && self.context == other.context
+    }
 }
 
 impl WaitingRun {

@@ -1,15 +1,14 @@
 -- What turns of a run reach.
-use Rattle.std.proofs.Common.{◌≡◌, ◌≢◌, ◌∙◌, ◌||◌, ℕ, Bool, List, MatchBool, None, Option, Some, Result, Ok, Err, ap, refl, subst, sym, true, false}
+use Rattle.std.proofs.Common.{◌≡◌, ◌≢◌, ◌∙◌, ◌||◌, ℕ, Bool, List, MatchBool, None, Option, Some, Result, Ok, Err, ap, subst, sym, true, false}
 use Rattle.std.proofs.lemmas.Bool.{false≢true}
 use Rattle.std.specs.Option.{unwrap_or}
 use Rattle.expr_code.specs.Instructions.{Op}
 use Rattle.expr_costs.specs.Costs.{costs_in}
-use Rattle.expr_error.specs.ErrorKind.{ErrorKind, OnlyMemory, RefusesNoPattern, error_kind, memory, pattern}
+use Rattle.expr_error.specs.ErrorKind.{ErrorKind, error_kind, pattern}
 use Rattle.expr_error.specs.declared.error.Error.{Error}
 use Rattle.expr_error.specs.declared.error.Error.TheVariants.{MemoryError}
-use Rattle.expr_frames.specs.Machines.{Allowed, ComesReplied, Ends, Goes}
+use Rattle.expr_frames.specs.Machines.{Allowed, ComesReplied, Ends}
 use Rattle.expr_frames.specs.Runs.{State}
-use Rattle.expr_frames.specs.declared.halt.Asked.{Asked}
 use Rattle.expr_frames.specs.declared.halt.Halt.{Halt}
 use Rattle.expr_frames.specs.declared.halt.Halt.TheVariants as halt
 use Rattle.expr_limits.specs.Counting.{Ending, ending_of, gives, refuses, stops}

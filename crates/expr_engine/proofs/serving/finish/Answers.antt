@@ -1,7 +1,8 @@
-use Rattle.std.proofs.Common.{◌⊎◌, ◌≡◌, ℕ, List, Result, IfErr, string_bytes, subst, sym}
+use Rattle.std.proofs.Common.{◌⊎◌, ◌≡◌, ◌∙◌, ℕ, List, Result, IfErr, string_bytes, subst, sym}
 use Rattle.expr_engine.specs.Faults.{IsAt, text_place, refused_byte}
 use Rattle.expr_engine.specs.Served.{EndsCall, ShowsText}
 use Rattle.expr_exchange.specs.declared.host_error.HostError.{HostError}
+use Rattle.expr_exchange.specs.declared.host_error.HostError.TheVariants.{Asks}
 use Rattle.expr_engine.proofs.Ended.{ends_call, misuse_ends}
 use Rattle.expr_engine.proofs.Faulty.{placed_on}
 use Rattle.expr_engine.proofs.Unchanged.{on_err}
@@ -29,3 +30,8 @@ returns-in-Err-clause-said c =
 pub returns-in-Err-clause-misuse : goal.returns-in-Err-clause-misuse
 returns-in-Err-clause-misuse c =
     misuse_ends c.args.done c.in-Err.refused c.refuse-status.result c.answer-in-Err.new.call.status c.in-Err.is c.refuse-status.ensures.misuse c.answer-in-Err.ensures.status
+
+pub returns-in-Err-clause-waits : goal.returns-in-Err-clause-waits
+returns-in-Err-clause-waits c = λ run is.
+    let same : c.in-Err.refused ≡ Asks run = cc (is, c.in-Err.is) in
+    c.answer-in-Err.ensures.run ∙ (c.refuse-status.ensures.asks run same).1

@@ -3,7 +3,6 @@ use Rattle.std.specs.Option.{unwrap_or}
 use Rattle.expr_acts.specs.Here.{here}
 use Rattle.expr_acts.specs.Texts.{text_of}
 use Rattle.expr_code.specs.Instructions.{Op}
-use Rattle.expr_context.specs.Context.{ContextView}
 use Rattle.expr_frames.specs.declared.asking.Asking.{Asking}
 use Rattle.expr_limits.specs.MeterView.{MeterView}
 use Rattle.expr_limits.specs.Rooms.{Room}

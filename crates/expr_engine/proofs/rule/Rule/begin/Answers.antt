@@ -12,6 +12,7 @@ use Rattle.expr_meaning.specs.World.{World, world_of}
 use Rattle.expr_stops.proofs.Reaching.{comes_begins, comes_within, outcome_under}
 use Rattle.expr_stops.specs.Stops.{CodeComes}
 use Rattle.expr_stops.specs.Turns.{CodeBegins, ReachesBy}
+use Rattle.expr_stops.specs.declared.turns.Reached.TheVariants.{Ended}
 use Rattle.expr_tree.specs.TermOf.{program_term}
 use Rattle.expr_engine.proofs.rule.Rule.begin.Goals as goal
 
@@ -28,24 +29,24 @@ returns-in-Some-clause-allowed c =
     let world : World = world_of (host_of_run (option_copied c.args.host.added)) ctx in
     turn_allowed c.args.limits world (program_term c.args.self.now.program) code c.begin.result.reached c.args.self.now.lowered (returns-in-Some-clause-turn c)
 
-pub returns-clause-turn : goal.returns-clause-turn
-returns-clause-turn c =
+pub returns-in-None-clause-turn : goal.returns-in-None-clause-turn
+returns-in-None-clause-turn c =
     let ctx : ContextView = context_of (names_or_none (option_copied c.args.names.names)) in
     let code : List (List Op) = owned_blocks c.args.self.now.code in
     let o = option_copied c.args.host.added in
-    let went = c.execute_in.result.went in
+    let went = c.execute_in-went.result.went in
     let there : World = world_of (host_by o) ctx in
     unhosted_in (λ (h : Host). ReturnsOutcome went (CodeBegins (world_of h ctx) code c.args.limits)) o (ap option_copied c.in-None.is)
-    (outcome_under (CodeComes c.args.limits there code) (CodeBegins there code c.args.limits) (comes_begins there code c.args.limits) went c.execute_in.ensures.ends)
+    (outcome_under (CodeComes c.args.limits there code) (CodeBegins there code c.args.limits) (comes_begins there code c.args.limits) went c.execute_in-went.ensures.ends)
 
-pub returns-clause-allowed : goal.returns-clause-allowed
-returns-clause-allowed c =
+pub returns-in-None-clause-allowed : goal.returns-in-None-clause-allowed
+returns-in-None-clause-allowed c =
     let ctx : ContextView = context_of (names_or_none (option_copied c.args.names.names)) in
     let code : List (List Op) = owned_blocks c.args.self.now.code in
     let world : World = world_of (host_of_run (option_copied c.args.host.added)) ctx in
-    turn_allowed c.args.limits world (program_term c.args.self.now.program) code _ c.args.self.now.lowered (returns-clause-turn c)
+    turn_allowed c.args.limits world (program_term c.args.self.now.program) code (Ended c.execute_in-went.result.went) c.args.self.now.lowered (returns-in-None-clause-turn c)
 
-pub returns-clause-within : goal.returns-clause-within
-returns-clause-within c =
+pub returns-in-None-clause-within : goal.returns-in-None-clause-within
+returns-in-None-clause-within c =
     let ctx : ContextView = context_of (names_or_none (option_copied c.args.names.names)) in
-    comes_within (world_of (host_by (option_copied c.args.host.added)) ctx) (owned_blocks c.args.self.now.code) c.args.limits c.execute_in.result.went c.execute_in.ensures.ends
+    comes_within (world_of (host_by (option_copied c.args.host.added)) ctx) (owned_blocks c.args.self.now.code) c.args.limits c.execute_in-went.result.went c.execute_in-went.ensures.ends

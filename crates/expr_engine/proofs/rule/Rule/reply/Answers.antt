@@ -17,8 +17,8 @@ returns-in-Some-clause-turn c =
     let code : List (List Op) = owned_blocks c.args.self.now.code in
     hosted_in (λ (h : Host). ReachesBy (world_of h ctx) code (PendingComes (world_of h ctx) code c.args.pending (Ok c.args.value)) c.reply.result.reached) (option_copied c.args.host.added) c.in-Some.added.now c.names.result.now (ap option_copied c.in-Some.is) c.names.ensures c.reply.ensures.turns
 
-pub returns-clause-turn : goal.returns-clause-turn
-returns-clause-turn c =
+pub returns-in-None-clause-turn : goal.returns-in-None-clause-turn
+returns-in-None-clause-turn c =
     let ctx : ContextView = context_of (names_or_none (option_copied c.args.names.names)) in
     let code : List (List Op) = owned_blocks c.args.self.now.code in
     unnamed_in (λ (h : Host). ReachesBy (world_of h ctx) code (PendingComes (world_of h ctx) code c.args.pending (Ok c.args.value)) c.reply-in-None.result.reached) (option_copied c.args.host.added) c.new-nothing.result (ap option_copied c.in-None.is) c.new-nothing.ensures c.reply-in-None.ensures.turns

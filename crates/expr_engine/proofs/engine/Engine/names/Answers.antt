@@ -1,0 +1,17 @@
+use Rattle.std.proofs.Common.{◌≡◌, ℕ, Err, Global, Ok, Result, String, string_bytes, subst}
+use Rattle.expr_engine.specs.Effects.{AreSaid}
+use Rattle.expr_engine.specs.declared.rule.Rule.{Rule}
+use Rattle.expr_engine.proofs.Told.{at_found}
+use Rattle.expr_exchange.specs.HandleMap.{thing_at}
+use Rattle.expr_exchange.specs.declared.host_error.HostError.{HostError}
+use Rattle.expr_exchange.specs.declared.host_error.HostError.TheVariants.{Unknown}
+use Rattle.expr_tree.specs.Names.{AreNamesOf}
+use Rattle.expr_tree.specs.TermOf.{program_term}
+use Rattle.expr_engine.proofs.engine.Engine.names.Goals as goal
+
+pub returns-in-Some-clause-said : goal.returns-in-Some-clause-said
+returns-in-Some-clause-said c =
+    let rule = c.in-Some.rule.now in
+    let done : Result (String Global × ℕ) HostError = Ok c.in_ok-names.field-0 in
+    at_found (thing_at c.args.self.now.rules c.args.program) rule (done ≡ Err Unknown) (λ (rule : Rule). AreSaid (λ names. AreNamesOf names (program_term rule.program)) (string_bytes c.in_ok-names.field-0.0) c.in_ok-names.field-0.1) c.in-Some.ensures.found
+    (subst (λ (rule : Rule). AreSaid (λ names. AreNamesOf names (program_term rule.program)) (string_bytes c.in_ok-names.field-0.0) c.in_ok-names.field-0.1) c.get-in-Some.ensures c.in_ok-names.ensures.ok)
