@@ -9,9 +9,9 @@ use Rattle.expr_lowering.specs.HostNeeds.{AreFunctionsOf}
 use Rattle.expr_lowering.specs.OwnedCodes.{owned_blocks}
 use Rattle.expr_engine.proofs.engine.Engine.functions.Goals as goal
 
-pub returns-in-Some-clause-said : goal.returns-in-Some-clause-said
-returns-in-Some-clause-said c =
+pub returns-in_ok-functions-in-Some-clause-said : goal.returns-in_ok-functions-in-Some-clause-said
+returns-in_ok-functions-in-Some-clause-said c =
     let rule = c.in-Some.rule.now in
-    let done : Result (String Global × ℕ) HostError = Ok c.in_ok-functions.field-0 in
-    at_found (thing_at c.args.self.now.rules c.args.program) rule (done ≡ Err Unknown) (λ (rule : Rule). AreSaid (λ names. AreFunctionsOf names (owned_blocks rule.code)) (string_bytes c.in_ok-functions.field-0.0) c.in_ok-functions.field-0.1) c.in-Some.ensures.found
-    (subst (λ (rule : Rule). AreSaid (λ names. AreFunctionsOf names (owned_blocks rule.code)) (string_bytes c.in_ok-functions.field-0.0) c.in_ok-functions.field-0.1) c.get-in-Some.ensures c.in_ok-functions.ensures.ok)
+    let done : Result (String Global × ℕ) HostError = Ok c.in_ok-functions-in-Some.field-0 in
+    at_found (thing_at c.args.self.now.rules c.args.program) rule (done ≡ Err Unknown) (λ (rule : Rule). AreSaid (λ names. AreFunctionsOf names (owned_blocks rule.code)) (string_bytes c.in_ok-functions-in-Some.field-0.0) c.in_ok-functions-in-Some.field-0.1) c.in-Some.ensures.found
+    (subst (λ (rule : Rule). AreSaid (λ names. AreFunctionsOf names (owned_blocks rule.code)) (string_bytes c.in_ok-functions-in-Some.field-0.0) c.in_ok-functions-in-Some.field-0.1) c.get-in-Some.ensures c.in_ok-functions-in-Some.ensures.ok)

@@ -9,9 +9,9 @@ use Rattle.expr_tree.specs.Names.{AreNamesOf}
 use Rattle.expr_tree.specs.TermOf.{program_term}
 use Rattle.expr_engine.proofs.engine.Engine.names.Goals as goal
 
-pub returns-in-Some-clause-said : goal.returns-in-Some-clause-said
-returns-in-Some-clause-said c =
+pub returns-in_ok-names-in-Some-clause-said : goal.returns-in_ok-names-in-Some-clause-said
+returns-in_ok-names-in-Some-clause-said c =
     let rule = c.in-Some.rule.now in
-    let done : Result (String Global × ℕ) HostError = Ok c.in_ok-names.field-0 in
-    at_found (thing_at c.args.self.now.rules c.args.program) rule (done ≡ Err Unknown) (λ (rule : Rule). AreSaid (λ names. AreNamesOf names (program_term rule.program)) (string_bytes c.in_ok-names.field-0.0) c.in_ok-names.field-0.1) c.in-Some.ensures.found
-    (subst (λ (rule : Rule). AreSaid (λ names. AreNamesOf names (program_term rule.program)) (string_bytes c.in_ok-names.field-0.0) c.in_ok-names.field-0.1) c.get-in-Some.ensures c.in_ok-names.ensures.ok)
+    let done : Result (String Global × ℕ) HostError = Ok c.in_ok-names-in-Some.field-0 in
+    at_found (thing_at c.args.self.now.rules c.args.program) rule (done ≡ Err Unknown) (λ (rule : Rule). AreSaid (λ names. AreNamesOf names (program_term rule.program)) (string_bytes c.in_ok-names-in-Some.field-0.0) c.in_ok-names-in-Some.field-0.1) c.in-Some.ensures.found
+    (subst (λ (rule : Rule). AreSaid (λ names. AreNamesOf names (program_term rule.program)) (string_bytes c.in_ok-names-in-Some.field-0.0) c.in_ok-names-in-Some.field-0.1) c.get-in-Some.ensures c.in_ok-names-in-Some.ensures.ok)

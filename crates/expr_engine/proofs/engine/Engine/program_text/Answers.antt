@@ -8,9 +8,9 @@ use Rattle.expr_exchange.specs.declared.host_error.HostError.TheVariants.{Unknow
 use Rattle.expr_tree.specs.TermOf.{program_term}
 use Rattle.expr_engine.proofs.engine.Engine.program_text.Goals as goal
 
-pub returns-in-Some-clause-said : goal.returns-in-Some-clause-said
-returns-in-Some-clause-said c =
+pub returns-in_ok-text-in-Some-clause-said : goal.returns-in_ok-text-in-Some-clause-said
+returns-in_ok-text-in-Some-clause-said c =
     let rule = c.in-Some.rule.now in
-    let done : Result (String Global) HostError = Ok c.in_ok-text.field-0 in
-    at_found (thing_at c.args.self.now.rules c.args.program) rule (done ≡ Err Unknown) (λ (rule : Rule). IsTextOf (string_bytes c.in_ok-text.field-0) (program_term rule.program)) c.in-Some.ensures.found
-    (subst (λ (rule : Rule). IsTextOf (string_bytes c.in_ok-text.field-0) (program_term rule.program)) c.get-in-Some.ensures c.in_ok-text.ensures.ok)
+    let done : Result (String Global) HostError = Ok c.in_ok-text-in-Some.field-0 in
+    at_found (thing_at c.args.self.now.rules c.args.program) rule (done ≡ Err Unknown) (λ (rule : Rule). IsTextOf (string_bytes c.in_ok-text-in-Some.field-0) (program_term rule.program)) c.in-Some.ensures.found
+    (subst (λ (rule : Rule). IsTextOf (string_bytes c.in_ok-text-in-Some.field-0) (program_term rule.program)) c.get-in-Some.ensures c.in_ok-text-in-Some.ensures.ok)

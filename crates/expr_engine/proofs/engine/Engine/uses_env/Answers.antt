@@ -10,9 +10,9 @@ use Rattle.expr_tree.specs.Names.{block_operands, env}
 use Rattle.expr_tree.specs.TermOf.{program_term}
 use Rattle.expr_engine.proofs.engine.Engine.uses_env.Goals as goal
 
-pub returns-in-Some-clause-told : goal.returns-in-Some-clause-told
-returns-in-Some-clause-told c =
+pub returns-in_ok-uses_env-in-Some-clause-told : goal.returns-in_ok-uses_env-in-Some-clause-told
+returns-in_ok-uses_env-in-Some-clause-told c =
     let rule = c.in-Some.rule.now in
-    let done : Result (ℤ) HostError = Ok c.in_ok-uses_env.field-0 in
-    at_found (thing_at c.args.self.now.rules c.args.program) rule (done ≡ Err Unknown) (λ (rule : Rule). TellsWhether (Contains (block_operands (program_term rule.program)) env) c.in_ok-uses_env.field-0) c.in-Some.ensures.found
-    (subst (λ (rule : Rule). TellsWhether (Contains (block_operands (program_term rule.program)) env) c.in_ok-uses_env.field-0) c.get-in-Some.ensures c.in_ok-uses_env.ensures.ok)
+    let done : Result (ℤ) HostError = Ok c.in_ok-uses_env-in-Some.field-0 in
+    at_found (thing_at c.args.self.now.rules c.args.program) rule (done ≡ Err Unknown) (λ (rule : Rule). TellsWhether (Contains (block_operands (program_term rule.program)) env) c.in_ok-uses_env-in-Some.field-0) c.in-Some.ensures.found
+    (subst (λ (rule : Rule). TellsWhether (Contains (block_operands (program_term rule.program)) env) c.in_ok-uses_env-in-Some.field-0) c.get-in-Some.ensures c.in_ok-uses_env-in-Some.ensures.ok)
