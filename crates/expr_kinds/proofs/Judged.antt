@@ -1,5 +1,6 @@
 -- What a check tells of a tree, by what it tells of the parts.
 use Rattle.std.proofs.Common.{◌≡◌, ℕ, List, [], ◌∷◌, Bool, true, false, Option, Some, None, MatchBool, Result, Ok, Err, IfOk, IfSome, bytes_eq, codes, refl, sym, subst, inl, inr}
+use Rattle.expr_context.specs.Context.{hash}
 use Rattle.expr_error.specs.ErrorKind.{evaluation, pattern}
 use Rattle.expr_functions.specs.Strictness.{operator_strictness}
 use Rattle.expr_functions.specs.declared.operator.Operator.{Operator}
@@ -7,11 +8,11 @@ use Rattle.expr_functions.specs.declared.operator.UnaryOperator.{UnaryOperator}
 use Rattle.expr_functions.specs.declared.strictness.Strictness.{Strictness}
 use Rattle.expr_functions.specs.declared.strictness.Strictness.TheVariants.{Both, EndsAtFalse, EndsAtTrue, Pattern}
 use Rattle.expr_tree.specs.Term.{Term, name, literal, list, mapping, range, call, unary, operation, postfix, choice, Block, answers, line}
-use Rattle.expr_schema.specs.Kinds.{Kind, any, bool, string, map, HasKind, Fits, Effect, total, matching, failing}
+use Rattle.expr_schema.specs.Kinds.{Kind, any, bool, string, map, Fields, HasKind, Fits, Effect, total, matching, failing}
 use Rattle.expr_schema.specs.Scopes.{Scope}
 use Rattle.expr_kinds.specs.Causes.{Literals, effect_under}
 use Rattle.expr_kinds.specs.Effects.{CoversEffect}
-use Rattle.expr_kinds.specs.Scopes.{bind_kind, given_at}
+use Rattle.expr_kinds.specs.Scopes.{bind_kind, given_at, is_absent}
 use Rattle.expr_kinds.specs.Narrowing.{after}
 use Rattle.expr_kinds.specs.Tables.{OperatorRow, rows, unary_kind}
 use Rattle.expr_kinds.specs.Typed.{OneOf, Unknown, Within, literal_of, ByRow, OperationGivesBy, NameStands, Typed, TypedBlock}
@@ -66,6 +67,10 @@ some-of o P x q h = subst (λ s. IfSome s P) q h
 -- names, literals and prefixes
 pub name-typed : (e : Effect) (s : Scope) (key : List ℕ) (k : Kind) → bytes_eq key (codes "$env") ≡ false → given_at s.names key ≡ Some k → Typed e s (name key) k
 name-typed e s key k q h = inl (subst (λ b. MatchBool b (k ≡ map s.environment) (NameStands s key k)) (sym q) (inl h))
+
+pub item-field-typed : (e : Effect) (s : Scope) (key : List ℕ) (k : Kind) → bytes_eq key (codes "$env") ≡ false
+    → (h : Kind) × (fs : Fields) × (is_absent s.names key ≡ true) × (given_at s.names hash ≡ Some h) × Fits h (map fs) × (given_at fs key ≡ Some k) → Typed e s (name key) k
+item-field-typed e s key k q h = inl (subst (λ b. MatchBool b (k ≡ map s.environment) (NameStands s key k)) (sym q) (inr h))
 
 pub env-typed : (e : Effect) (s : Scope) (key : List ℕ) → bytes_eq key (codes "$env") ≡ true → Typed e s (name key) (map s.environment)
 env-typed e s key q = inl (subst (λ b. MatchBool b (map s.environment ≡ map s.environment) (NameStands s key (map s.environment))) (sym q) refl)

@@ -3,6 +3,7 @@ pub mod Binding
 pub mod Calling
 pub mod Causes
 pub mod Composed
+pub mod FoldTold
 pub mod Folding
 pub mod Found
 pub mod Held
@@ -26,6 +27,7 @@ pub mod Parts
 pub mod Programs
 pub mod Refined
 pub mod Rows
+pub mod Scalars
 pub mod Sorted
 pub mod Standing
 pub mod TableKinds

@@ -16,9 +16,9 @@ use Rattle.expr_schema.proofs.Unions.{nil_or}
 use Rattle.expr_kinds.specs.BuiltinRows.{AreFirst}
 use Rattle.expr_kinds.specs.Checks.{SameValues}
 use Rattle.expr_kinds.specs.Overloads.{Overload}
-use Rattle.expr_kinds.specs.Scopes.{at_name, given_at}
+use Rattle.expr_kinds.specs.Scopes.{at_name, given_at, is_absent}
 use Rattle.expr_kinds.specs.Typed.{AllFit, OneOf}
-use Rattle.expr_kinds.proofs.Lists.{Each-all}
+use Rattle.expr_kinds.proofs.Lists.{Each-all, Each-weaker}
 
 -- kinds that are the same
 pub same-values : (a b : Kind) → a ≡ b → SameValues a b
@@ -26,6 +26,10 @@ same-values a b q v = (λ h. subst (λ k. HasKind k v) q h, λ h. subst (λ k. H
 
 pub same-back : (a b c : Kind) → ((v : Value) → (HasKind b v ↔ HasKind c v)) → c ≡ a → SameValues a b
 same-back a b c both q v = (λ h. (both v).1 (subst (λ k. HasKind k v) (sym q) h), λ h. subst (λ k. HasKind k v) q ((both v).0 h))
+
+-- arrays of items of a smaller kind
+pub array-fits : (a b : Kind) → Fits a b → Fits (array a) (array b)
+array-fits a b f v (xs, is, all) = (xs, is, Each-weaker (λ (x : Value). HasKind a x) (λ (x : Value). HasKind b x) f xs all)
 
 -- kinds with parts of any kind
 pub array-any : (k : Kind) → Fits (array k) (array any)
@@ -178,3 +182,17 @@ pub given-required : (f : memory_fields.Fields) (fs : Fields) (n : List ℕ) (g 
 given-required f fs n g same at required =
     ap (λ x. given_at x n) (sym same ∙ fields_view-parts f) ∙ given-entry (named_of f) (others_of f) n (entry_in g) (sym at ∙ ap Some (entry_view-parts g))
     ∙ ap (λ b. cond b (Some (kind_view (out-FieldKind g).kind)) None) required
+
+-- nothing stands at a name
+absent-at : (ps : List (List ℕ × Entry)) (n : List ℕ) → find n ps ≡ None → is_absent (fields_from ps None) n ≡ true
+absent-at [] n q = refl
+absent-at (p ∷ ps) n q = here (absent-at ps n) (bytes_eq p.0 n) (bytes_eq n p.0) (bytes_eq-symm p.0 n) q
+  where
+    here : (find n ps ≡ None → is_absent (fields_from ps None) n ≡ true) → (b c : Bool) → b ≡ c → cond c (Some p.1) (find n ps) ≡ None → cond b false (is_absent (fields_from ps None) n) ≡ true
+    here below true true e r = absurd (cc r)
+    here below false false e r = below r
+    here below true false e r = absurd (cc e)
+    here below false true e r = absurd (cc e)
+
+pub none-at : (f : memory_fields.Fields) (n : List ℕ) → find n (named_of f) ≡ None → others_of f ≡ None → is_absent (fields_view f) n ≡ true
+none-at f n q o = ap (λ x. is_absent x n) (fields_view-parts f) ∙ ap (λ k. is_absent (fields_from (named_of f) k) n) o ∙ absent-at (named_of f) n q

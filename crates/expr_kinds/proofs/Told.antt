@@ -3,6 +3,7 @@ use Rattle.std.proofs.Common.{◌≡◌, ℕ, ◌+◌, ◌<◌, List, [], ◌∷
 use Rattle.std.specs.Borrow.{Bor}
 use Rattle.std.specs.Option.{option_copied}
 use Rattle.std.proofs.lemmas.List.{drop_more}
+use Rattle.expr_context.specs.Context.{hash}
 use Rattle.expr_functions.specs.Strictness.{operator_strictness}
 use Rattle.expr_functions.specs.declared.operator.Operator.{Operator}
 use Rattle.expr_functions.specs.declared.operator.UnaryOperator.{UnaryOperator}
@@ -16,16 +17,16 @@ use Rattle.expr_schema.specs.SchemaView.{effect_of}
 use Rattle.expr_schema.specs.declared.kind.Kind as memory
 use Rattle.expr_schema.specs.Scopes.{Scope}
 use Rattle.expr_kinds.specs.Causes.{Cause, Literals, effect_under}
-use Rattle.expr_kinds.specs.Checks.{Checks, ChecksBlock, Upholds, PartFits, SideFits, literals_view, with_bound}
+use Rattle.expr_kinds.specs.Checks.{Checks, ChecksBlock, Upholds, PartFits, SideFits, ItemField, SameAt, literals_view, with_bound}
 use Rattle.expr_kinds.specs.Effects.{CoversEffect}
 use Rattle.expr_kinds.specs.Narrowing.{after, assuming}
-use Rattle.expr_kinds.specs.Scopes.{at_name, bind_kind, given_at}
+use Rattle.expr_kinds.specs.Scopes.{at_name, bind_kind, given_at, is_absent}
 use Rattle.expr_kinds.specs.Tables.{OperatorRow, rows, unary_kind}
 use Rattle.expr_kinds.specs.Typed.{OneOf, Within, Typed, TypedBlock, literal_of}
 use Rattle.expr_kinds.specs.declared.checked.Checked.{Checked}
 use Rattle.expr_kinds.specs.declared.names.BoundKind.{BoundKind}
 use Rattle.expr_kinds.proofs.Composed.{range-typed, choice-typed, ternary-typed, coalesce-typed, field-typed, item-typed, byte-typed, entry-typed, optional-field-typed, optional-literal-typed, optional-typed}
-use Rattle.expr_kinds.proofs.Judged.{within-fits, covers-through, name-typed, env-typed, prefix-typed, row-typed, and-typed, or-typed, match-typed}
+use Rattle.expr_kinds.proofs.Judged.{within-fits, covers-through, item-field-typed, name-typed, env-typed, prefix-typed, row-typed, and-typed, or-typed, match-typed}
 
 -- a part at an effect that covers that of the whole
 module _ (c : Checked) (f e : Effect) (covers : CoversEffect e f) where
@@ -168,11 +169,24 @@ bound-functions [] s = refl
 bound-functions (b ∷ bs) s = bound-functions bs (bind_kind b.name.now (kind_view b.kind) s)
 
 module _ (bs : List BoundKind) (b : BoundKind) (s : Scope) (key : List ℕ) where
-  at-last : (q : Bool) → bytes_eq b.name.now key ≡ q → given_at (with_bound (bs ++ b ∷ []) s).names key ≡ cond q (Some (kind_view b.kind)) (given_at (with_bound bs s).names key)
-  at-last q same = ap (λ (x : Scope). given_at x.names key) (bound-last bs b s) ∙ ap (λ c. cond c (Some (kind_view b.kind)) (given_at (with_bound bs s).names key)) same
+  at-last : {X : Type 0} (f : Fields → X) (g : X) (q : Bool) → f (with_bound (bs ++ b ∷ []) s).names ≡ cond (bytes_eq b.name.now key) g (f (with_bound bs s).names) → bytes_eq b.name.now key ≡ q
+      → f (with_bound (bs ++ b ∷ []) s).names ≡ cond q g (f (with_bound bs s).names)
+  at-last f g q is same = is ∙ ap (λ c. cond c g (f (with_bound bs s).names)) same
 
   pub bound-found : bytes_eq b.name.now key ≡ true → given_at (with_bound (bs ++ b ∷ []) s).names key ≡ Some (kind_view b.kind)
-  bound-found same = at-last true same
+  bound-found same = at-last (λ fs. given_at fs key) (Some (kind_view b.kind)) true (ap (λ (x : Scope). given_at x.names key) (bound-last bs b s)) same
 
-  pub bound-before : bytes_eq b.name.now key ≡ false → given_at (with_bound (bs ++ b ∷ []) s).names key ≡ given_at (with_bound bs s).names key
-  bound-before other = at-last false other
+  pub bound-before : bytes_eq b.name.now key ≡ false → SameAt key (with_bound (bs ++ b ∷ []) s).names (with_bound bs s).names
+  bound-before other = (
+    at-last (λ fs. given_at fs key) (Some (kind_view b.kind)) false (ap (λ (x : Scope). given_at x.names key) (bound-last bs b s)) other,
+    at-last (λ fs. is_absent fs key) false false (ap (λ (x : Scope). is_absent x.names key) (bound-last bs b s)) other,
+  )
+
+pub same-before : (key : List ℕ) (a b c : Fields) → SameAt key b a → SameAt key b c → SameAt key a c
+same-before key a b c (g, h) (i, j) = (sym g ∙ i, sym h ∙ j)
+
+-- a name that is a field of the item
+pub told-item : (known s : Scope) → Upholds known s → (key : List ℕ) (k : Kind) → bytes_eq key (codes "$env") ≡ false → ItemField known key k → (e : Effect) → Within (λ a. Typed e s (name key) a) k
+told-item known s keeps key k other (fs, absent, at, is) e =
+    let (h, there, fits) = keeps.given hash (map fs) at in
+    (k, item-field-typed e s key k other (h, fs, keeps.absent key absent, there, fits, is), λ v x. x)

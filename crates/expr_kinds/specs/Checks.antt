@@ -2,6 +2,7 @@
 use Rattle.std.specs.Prelude.{◌≡◌, ◌⊎◌, ◌↔◌, ℕ, true, List, [], ◌∷◌, Option, Some, map as each}
 use Rattle.std.specs.Borrow.{Bor}
 use Rattle.std.specs.Option.{option_copied}
+use Rattle.expr_context.specs.Context.{hash}
 use Rattle.expr_meaning.specs.Allows.{is_given}
 use Rattle.expr_tree.specs.Term.{Block, Bound, Postfix, Predicate, Term, Terms, postfix}
 use Rattle.expr_value.specs.declared.value.Value.{Value}
@@ -45,6 +46,14 @@ pub record Upholds (known s : Scope) : Type 0 where
   pub functions : s.functions ≡ known.functions
   pub given : (key : List ℕ) (k : Kind) → given_at known.names key ≡ Some k → HasAt s key k
   pub absent : (key : List ℕ) → is_absent known.names key ≡ true → is_absent s.names key ≡ true
+
+-- the item at `#` always has a field, and the context never has a value of its name
+abbrev pub ItemField : Scope → List ℕ → Kind → Type 0
+ItemField s key k = (fs : Fields) × (is_absent s.names key ≡ true) × (given_at s.names hash ≡ Some (map fs)) × (given_at fs key ≡ Some k)
+
+-- the same is said of a name
+abbrev pub SameAt : List ℕ → Fields → Fields → Type 0
+SameAt key a b = (given_at a key ≡ given_at b key) × (is_absent a key ≡ is_absent b key)
 
 -- what a check says in each scope that has what is known
 abbrev pub ChecksIn : Scope → Checked → Term → Type 0

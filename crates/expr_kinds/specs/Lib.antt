@@ -2,6 +2,7 @@ pub mod BuiltinRows
 pub mod Causes
 pub mod Checks
 pub mod Effects
+pub mod FoldRows
 pub mod Methods
 pub mod Narrowing
 pub mod Overloads

@@ -1,7 +1,8 @@
 //! The check of calls: of a host's functions by their signatures, and of built-ins.
-ghost use Rattle.std.specs.Prelude.{◌≡◌, ℕ, List, Some, IfOk, IsTrue, map};
+ghost use Rattle.std.specs.Prelude.{◌≡◌, ℕ, List, Some, IfOk, IfSome, IsTrue, map};
 ghost use Rattle.expr_error.specs.ErrorKind.{OnlyMemory};
 ghost use Rattle.expr_kinds.specs.Checks.{TellsCall, Upholds, known_scope};
+ghost use Rattle.expr_kinds.specs.FoldRows.{TellsPredicate};
 ghost use Rattle.expr_kinds.specs.Typed.{AllFit};
 ghost use Rattle.expr_schema.specs.KindView.{kind_view};
 ghost use Rattle.expr_schema.specs.Kinds.{never};
@@ -11,21 +12,24 @@ ghost use Rattle.expr_tree.specs.Term.{Predicate};
 
 use crate::builtins::builtin_checked;
 use crate::checked::{Checked, CheckedArguments, joined_effect};
+use crate::folds::higher_checked;
 use crate::names::Known;
 use expr_functions::Builtin;
 use expr_schema::{Kind, Signature, fits};
 use expr_value::Result;
 use std::alloc::Global;
 
-/// What is known of a call. A function of the host comes before a built-in. Of built-ins with a predicate nothing is
-/// known.
+/// What is known of a call, by what is known of the results of its predicate. A function of the host comes before a
+/// built-in.
 pub(crate) fn call_checked(
     alloc: Global,
     key: &str,
     arguments: &CheckedArguments<'_>,
+    answers: &Option<Checked>,
     known: &Known<'_>,
 ) -> Result<Checked>
     ensures ok { IfOk result (λ c. (s : Scope) (p : Predicate) → Upholds (known_scope known.now) s
+        → IfSome answers.now (λ a. TellsPredicate arguments.now s key.now p a)
         → TellsCall arguments.now s key.now p c) }
     ensures err { OnlyMemory result }
 {
@@ -33,7 +37,8 @@ pub(crate) fn call_checked(
         Some(signature) => signed_checked(alloc, arguments, signature),
         None => match Builtin::from_name(key) {
             Some(Builtin::OnValues(call)) => builtin_checked(alloc, call, arguments),
-            _ => Ok(Checked::unknown()),
+            Some(Builtin::HigherOrder(call)) => higher_checked(alloc, call, arguments, answers),
+            None => Ok(Checked::unknown()),
         },
     }
 }

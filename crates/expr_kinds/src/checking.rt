@@ -1,14 +1,18 @@
 //! The check of a program: the kind of what it returns, and which errors may come.
-ghost use Rattle.std.specs.Prelude.{IfOk, map};
+ghost use Rattle.std.specs.Prelude.{IfOk, IfSome, map};
 ghost use Rattle.std.specs.Option.{option_copied};
 ghost use Rattle.expr_error.specs.ErrorKind.{OnlyMemory};
-ghost use Rattle.expr_kinds.specs.Checks.{Checks, ChecksBlock, ChecksBlockIn, ChecksBoundIn, ChecksEachIn, ChecksIn, ChecksPostfix, known_scope};
+ghost use Rattle.expr_kinds.specs.Checks.{Checks, ChecksBlock, ChecksBlockIn, ChecksBoundIn, ChecksEachIn, ChecksIn, ChecksPostfix, Upholds, known_scope};
+ghost use Rattle.expr_kinds.specs.FoldRows.{TellsAnswers, TellsPredicate};
+ghost use Rattle.expr_schema.specs.KindView.{kind_view};
 ghost use Rattle.expr_schema.specs.SchemaView.{scope_of};
+ghost use Rattle.expr_schema.specs.Scopes.{Scope};
 ghost use Rattle.expr_tree.specs.Term.{list, mapping, name, pipe, term_pairs};
-ghost use Rattle.expr_tree.specs.TermOf.{bound_term, line_term, postfix_term, program_term, term_of, terms_of};
+ghost use Rattle.expr_tree.specs.TermOf.{bound_term, line_term, postfix_term, predicate_term, program_term, term_of, terms_of};
 
 use crate::calls::call_checked;
 use crate::checked::{Checked, CheckedArguments, joined_effect, with_first};
+use crate::folds::{folded, item_answers, only_items};
 use crate::forms::{
     choice_checked, coalesce_checked, literal_checked, range_checked, slice_checked,
 };
@@ -17,6 +21,7 @@ use crate::members::{literal_name, member_checked, part_checked};
 use crate::methods::method_checked;
 use crate::names::Known;
 use crate::operations::{operation_checked, prefix_checked};
+use expr_functions::HigherOrderCall;
 use expr_schema::{Effect, FieldKind, Fields, Kind, Schema, join};
 use expr_tree::node::{Node, PostfixOperator, Program};
 use expr_value::{Items, Result, Text, Value};
@@ -24,7 +29,7 @@ use std::alloc::Global;
 
 /// The kind of what a program returns, and which errors may come, in each context and host that keep to a schema.
 ///
-/// Of built-ins with a predicate nothing is known: they return a value of any kind, or fail.
+/// Of `reduce` and `sortBy` nothing is known: they return a value of any kind, or fail.
 /// No clause says that the kind has few other values, nor that an error that may come does come.
 pub fn check(alloc: Global, program: &Program, schema: &Schema) -> Result<Checked>
     ensures ok { IfOk result (λ c. ChecksBlock c (scope_of schema.now) (program_term program.now)) }
@@ -113,9 +118,14 @@ fn node_checked(alloc: Global, node: &Node, known: &Known<'_>) -> Result<Checked
             let second = block_checked(alloc, alternative, known)?;
             choice_checked(alloc, &test, &first, &second)
         }
-        Node::Func { ident, args, .. } => {
+        Node::Func {
+            ident,
+            args,
+            predicate,
+        } => {
             let arguments = arguments_checked(alloc, args, known)?;
-            call_checked(alloc, ident, &arguments, known)
+            let answers = answers_checked(alloc, ident, &arguments, predicate, known)?;
+            call_checked(alloc, ident, &arguments, &answers, known)
         }
         Node::Map(pairs) => map_checked(alloc, pairs, known),
     }
@@ -193,12 +203,64 @@ fn piped_checked(
     ensures err { OnlyMemory result }
 {
     match target {
-        Node::Func { ident, args, .. } => {
+        Node::Func {
+            ident,
+            args,
+            predicate,
+        } => {
             let rest = arguments_checked(alloc, args, known)?;
             let arguments = with_first(alloc, operand, literal, rest)?;
-            call_checked(alloc, ident, &arguments, known)
+            let answers = answers_checked(alloc, ident, &arguments, predicate, known)?;
+            call_checked(alloc, ident, &arguments, &answers, known)
         }
         _ => Ok(Checked::unknown()),
+    }
+}
+
+/// What is known of the results of the predicate of a call, if it is one of a built-in that takes an array and a
+/// predicate.
+#[cycle(check)]
+fn answers_checked(
+    alloc: Global,
+    key: &str,
+    arguments: &CheckedArguments<'_>,
+    predicate: &Option<Box<Program>>,
+    known: &Known<'_>,
+) -> Result<Option<Checked>>
+    ensures ok { IfOk result (λ o. IfSome o (λ c. (s : Scope) → Upholds (known_scope known.now) s
+        → TellsPredicate arguments.now s key.now (predicate_term predicate.now) c)) }
+    ensures err { OnlyMemory result }
+{
+    match folded(key) {
+        Some(call) => match only_items(arguments.kinds.as_slice()) {
+            Some(item) => asked_answers(alloc, call, item, predicate, known),
+            None => Ok(None),
+        },
+        None => Ok(None),
+    }
+}
+
+/// What is known of the results of a predicate for items of a kind. Without a predicate some built-ins take each item as
+/// the result for itself.
+#[cycle(check)]
+fn asked_answers(
+    alloc: Global,
+    call: HigherOrderCall,
+    item: &Kind,
+    predicate: &Option<Box<Program>>,
+    known: &Known<'_>,
+) -> Result<Option<Checked>>
+    ensures ok { IfOk result (λ o. IfSome o (λ c. (s : Scope) → Upholds (known_scope known.now) s
+        → TellsAnswers (kind_view item.now) s call (predicate_term predicate.now) c)) }
+    ensures err { OnlyMemory result }
+{
+    match predicate {
+        Some(program) => {
+            let inner = known.asked(alloc, call, item)?;
+            let answer = block_checked(alloc, program, &inner)?;
+            Ok(Some(answer))
+        }
+        None => item_answers(alloc, call, item),
     }
 }
 
@@ -271,7 +333,7 @@ fn arguments_checked<'n>(
     })
 }
 
-/// What is known of a name.
+/// What is known of a name. In a predicate it may be a field of the item.
 fn name_checked(alloc: Global, key: &str, known: &Known<'_>) -> Result<Checked>
     ensures ok { IfOk result (λ c. ChecksIn (known_scope known.now) c (name key.now)) }
     ensures err { OnlyMemory result }
@@ -291,6 +353,15 @@ fn name_checked(alloc: Global, key: &str, known: &Known<'_>) -> Result<Checked>
                 effect: Effect::Total,
             })
         }
-        None => Ok(Checked::unknown()),
+        None => match known.item_field(key) {
+            Some(found) => {
+                let kind = found.copy(alloc)?;
+                Ok(Checked {
+                    kind,
+                    effect: Effect::Total,
+                })
+            }
+            None => Ok(Checked::unknown()),
+        },
     }
 }

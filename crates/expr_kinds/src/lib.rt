@@ -11,8 +11,9 @@
 //!   and `specs/Causes.antt` which literals exclude an error.
 //! - `specs/Tables.antt`, `specs/Overloads.antt` and `specs/Methods.antt` are the tables of operators, built-ins and
 //!   methods. Each of their rows is proved.
-//! - `check` finds a kind of a program. `specs/Checks.antt` says what it tells. `src/tables.rt`, `src/call_rows.rt` and
-//!   `src/methods.rt` have the tables in code, and `specs/BuiltinRows.antt` says what their rows stand for.
+//! - `check` finds a kind of a program. `specs/Checks.antt` says what it tells. `src/tables.rt`, `src/call_rows.rt`,
+//!   `src/methods.rt` and `src/folds.rt` have the tables in code. `specs/BuiltinRows.antt` and `specs/FoldRows.antt` say
+//!   what their rows stand for.
 #![tactic(auto)]
 
 mod bases;
@@ -21,6 +22,7 @@ mod call_rows;
 mod calls;
 mod checked;
 mod checking;
+mod folds;
 mod forms;
 mod known_literals;
 mod laws;

@@ -1,13 +1,15 @@
 //! What is known of the names where a tree stands.
-ghost use Rattle.std.specs.Prelude.{◌≡◌, Some, IfOk, IfSome, MatchOption, OnOk};
+ghost use Rattle.std.specs.Prelude.{◌≡◌, Some, IfOk, IfSome, IsTrue, MatchOption, OnOk, true};
 ghost use Rattle.expr_error.specs.ErrorKind.{OnlyMemory};
-ghost use Rattle.expr_kinds.specs.Checks.{known_scope, with_bound};
-ghost use Rattle.expr_kinds.specs.Scopes.{bind_kind, given_at};
-ghost use Rattle.expr_schema.specs.KindView.{kind_view};
+ghost use Rattle.expr_kinds.specs.Checks.{ItemField, SameAt, known_scope, with_bound};
+ghost use Rattle.expr_kinds.specs.FoldRows.{binds_index};
+ghost use Rattle.expr_kinds.specs.Scopes.{asked, bind_kind, given_at, is_absent};
+ghost use Rattle.expr_schema.specs.KindView.{fields_view, kind_view};
 ghost use Rattle.expr_schema.specs.SchemaView.{scope_of};
 ghost use Rattle.expr_schema.specs.Scopes.{Scope};
 
-use expr_schema::{Kind, Schema};
+use expr_functions::HigherOrderCall;
+use expr_schema::{Fields, Kind, Schema};
 use expr_value::Result;
 use std::alloc::Global;
 
@@ -64,6 +66,28 @@ impl<'a> Known<'a> {
         Ok(())
     }
 
+    /// What is known of the names in a predicate: `#` is an item of a kind, and `map` binds `#index` too.
+    pub(crate) fn asked(
+        &self,
+        alloc: Global,
+        call: HigherOrderCall,
+        item: &Kind,
+    ) -> Result<Known<'a>>
+        ensures ok { IfOk result
+            (λ k. known_scope k ≡ asked call (kind_view item.now) (known_scope self.now)) }
+        ensures err { OnlyMemory result }
+    {
+        let mut inner = self.copy(alloc)?;
+        let kind = item.copy(alloc)?;
+        if binds_index(call) {
+            inner.bind("#index", Kind::Integer)?;
+            inner.bind("#", kind)?;
+            return Ok(inner);
+        }
+        inner.bind("#", kind)?;
+        Ok(inner)
+    }
+
     /// The kind of a name that always has a value, or `None`.
     pub(crate) fn given(&self, name: &str) -> Option<&Kind>
         ensures { IfSome result (λ k. given_at (known_scope self.now).names name.now
@@ -71,15 +95,48 @@ impl<'a> Known<'a> {
     {
         match bound_kind(&self.bound, name) {
             Some(kind) => Some(kind),
-            None => required_kind(self.schema, name),
+            None => required_field(self.schema.names(), name),
         }
     }
+
+    /// The kind of a field that the item at `#` always has, if the context never has a value of this name.
+    pub(crate) fn item_field(&self, name: &str) -> Option<&Kind>
+        ensures { IfSome result (λ k. ItemField (known_scope self.now) name.now (kind_view k.now)) }
+    {
+        if !self.lacks(name) {
+            return None;
+        }
+        match self.given("#") {
+            Some(item) => match item {
+                Kind::Map(fields) => required_field(fields, name),
+                _ => None,
+            },
+            None => None,
+        }
+    }
+
+    /// Whether a name never has a value.
+    fn lacks(&self, name: &str) -> bool
+        ensures { IsTrue result → is_absent (known_scope self.now).names name.now ≡ true }
+    {
+        match bound_kind(&self.bound, name) {
+            Some(_) => false,
+            None => has_nothing_at(self.schema.names(), name),
+        }
+    }
+}
+
+/// Whether a predicate of a built-in knows the index of an item.
+fn binds_index(call: HigherOrderCall) -> bool
+    ensures { result ≡ binds_index call }
+{
+    matches!(call, HigherOrderCall::Map)
 }
 
 /// The kind of the last of these names that is the one that is asked for.
 fn bound_kind<'k>(bound: &'k [BoundKind<'_>], name: &str) -> Option<&'k Kind>
     ensures { MatchOption result
-        ((s : Scope) → given_at (with_bound bound.now s).names name.now ≡ given_at s.names name.now)
+        ((s : Scope) → SameAt name.now (with_bound bound.now s).names s.names)
         (λ k. (s : Scope) → given_at (with_bound bound.now s).names name.now ≡ Some (kind_view k.now)) }
 {
     let mut count = bound.len();
@@ -93,11 +150,24 @@ fn bound_kind<'k>(bound: &'k [BoundKind<'_>], name: &str) -> Option<&'k Kind>
     None
 }
 
-/// The kind of a name that the schema requires, or `None`.
-fn required_kind<'k>(schema: &'k Schema, name: &str) -> Option<&'k Kind>
-    ensures { IfSome result (λ k. given_at (scope_of schema.now).names name.now ≡ Some (kind_view k.now)) }
+/// Whether nothing may stand at a name.
+fn has_nothing_at(fields: &Fields, name: &str) -> bool
+    ensures { IsTrue result → is_absent (fields_view fields.now) name.now ≡ true }
 {
-    match schema.names().get(name) {
+    match fields.get(name) {
+        Some(_) => false,
+        None => match fields.others() {
+            Some(_) => false,
+            None => true,
+        },
+    }
+}
+
+/// The kind of a field that is required, or `None`.
+fn required_field<'k>(fields: &'k Fields, name: &str) -> Option<&'k Kind>
+    ensures { IfSome result (λ k. given_at (fields_view fields.now) name.now ≡ Some (kind_view k.now)) }
+{
+    match fields.get(name) {
         Some(field) => {
             if field.required {
                 return Some(&field.kind);

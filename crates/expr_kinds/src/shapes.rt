@@ -202,7 +202,7 @@ fn item_of(kind: &Kind, shape: Shape) -> Option<&Kind>
 }
 
 /// The kind of the items of an array, or `None`.
-fn array_item(kind: &Kind) -> Option<&Kind>
+pub(crate) fn array_item(kind: &Kind) -> Option<&Kind>
     ensures { IfSome result (λ k. kind_view kind.now ≡ array (kind_view k.now)) }
 {
     match kind {

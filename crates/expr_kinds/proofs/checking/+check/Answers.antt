@@ -1,4 +1,4 @@
-use Rattle.std.proofs.Common.{◌≡◌, ◌==◌, ◌++◌, ◌+◌, ◌≤◌, Bool, true, false, List, [], ◌∷◌, Option, Some, None, length, map, drop, get_or, Box, Vec, String, Global, string_bytes, inl, vec_len, append-nil, refl, sym, ap, ◌∙◌, subst, arith, rules}
+use Rattle.std.proofs.Common.{◌≡◌, ◌==◌, ◌++◌, ◌+◌, ◌≤◌, Bool, true, false, ℕ, List, [], ◌∷◌, Option, Some, None, IfSome, length, map, drop, get_or, Box, Vec, String, Global, string_bytes, inl, vec_len, append-nil, refl, sym, ap, ◌∙◌, subst, arith, rules}
 use Rattle.std.specs.Option.{option_copied}
 use Rattle.std.proofs.lemmas.Bool.{eqb-true}
 use Rattle.std.proofs.lemmas.List.{drop_all}
@@ -9,7 +9,7 @@ use Rattle.expr_tree.specs.declared.node.Node.TheShapes.{weighed-Node-Map-0-at-2
 use Rattle.expr_tree.proofs.node.Node.TheLaws.{the_size}
 use Rattle.expr_tree.proofs.Programs.{term_of-parts}
 use Rattle.expr_tree.proofs.Shapes.{term_of-Array, term_of-Conditional, term_of-Func, term_of-Ident, term_of-Index, term_of-Map, term_of-Method, term_of-Operation, term_of-Postfix, term_of-Range, term_of-Slice, term_of-Ternary, term_of-Unary, term_of-Value}
-use Rattle.expr_tree.specs.Term.{Term, name, list, mapping, call, postfix, index, slice, pipe, method, coalesce, answers, block_with, term_pairs}
+use Rattle.expr_tree.specs.Term.{Term, Predicate, name, list, mapping, call, postfix, index, slice, pipe, method, coalesce, answers, block_with, term_pairs}
 use Rattle.expr_tree.specs.TermOf.{bound_term, line_term, postfix_term, predicate_term, program_term, term_of, terms_of}
 use Rattle.expr_tree.specs.declared.node.Node.{Node, the_lemmas}
 use Rattle.expr_tree.specs.declared.node.PostfixOperator.TheVariants as behind
@@ -18,12 +18,16 @@ use Rattle.expr_schema.specs.KindView.{Entry, fields_view, kind_view}
 use Rattle.expr_schema.specs.SchemaView.{effect_of}
 use Rattle.expr_kinds.specs.Checks.{Checks, ChecksBlock, ChecksBlockIn, ChecksBound, ChecksEachIn, ChecksIn, Upholds, known_scope, literals_view}
 use Rattle.expr_kinds.specs.Effects.{CoversEffect}
+use Rattle.expr_kinds.specs.FoldRows.{TellsAnswers, TellsPredicate}
 use Rattle.expr_kinds.specs.Narrowing.{after, assuming}
 use Rattle.expr_kinds.specs.Scopes.{bind_kind}
 use Rattle.expr_schema.specs.Scopes.{Scope}
 use Rattle.expr_kinds.specs.Typed.{Typed, TypedAll, TypedBlock, TypedBound, TypedEach, TypedPairs, literal_of, literals_of}
+use Rattle.expr_kinds.specs.declared.checked.Checked.{Checked}
+use Rattle.expr_kinds.specs.declared.checked.CheckedArguments.{CheckedArguments}
 use Rattle.expr_kinds.proofs.Composed.{list-typed}
-use Rattle.expr_kinds.proofs.Judged.{covers-through, fits-same, if-ok, within-fits}
+use Rattle.expr_kinds.proofs.FoldTold.{told-answers, told-predicate}
+use Rattle.expr_kinds.proofs.Judged.{covers-through, fits-same, if-ok, if-some, within-fits}
 use Rattle.expr_kinds.proofs.Tabled.{told-call, told-pipe}
 use Rattle.expr_kinds.proofs.TableKinds.{entry-made, field-lets, map-lets}
 use Rattle.expr_kinds.proofs.Told.{drop-at, known-pushed, pushed}
@@ -247,28 +251,66 @@ bound_checked-returns-in-Some-clause-ok t c =
 pub bound_checked-returns-in-None-clause-ok : goal.bound_checked-returns-in-None-clause-ok
 bound_checked-returns-in-None-clause-ok t c = λ s keeps e covers fits. subst (λ b. TypedBound e s (bound_term b)) (sym c.in-None.is) tt
 
+-- what is told of the results of a predicate
+answers-at : (a : CheckedArguments) (s : Scope) (p : Predicate) (asked called : List ℕ) → asked ≡ called → (known : Scope) (o : Option Checked) → Upholds known s → IfSome o (λ c. (s : Scope) → Upholds known s → TellsPredicate a s asked p c)
+    → IfSome o (λ c. TellsPredicate a s called p c)
+answers-at a s p asked called same known o keeps h = if-some o _ (λ c. TellsPredicate a s called p c) (λ c tells. subst (λ k. TellsPredicate a s k p c) same (tells s keeps)) h
+
 -- pipes
-pub piped_checked-returns-in_ok-arguments-in-Func-clause-ok : goal.piped_checked-returns-in_ok-arguments-in-Func-clause-ok
-piped_checked-returns-in_ok-arguments-in-Func-clause-ok t c =
+pub piped_checked-returns-in_ok-answers-in-Func-clause-ok : goal.piped_checked-returns-in_ok-answers-in-Func-clause-ok
+piped_checked-returns-in_ok-answers-in-Func-clause-ok t c =
     let known = known_scope c.args.known.now in
     let ns = c.in-Func.args in
     let ts = terms_of (map term_of ns.items) in
     let p = predicate_term c.in-Func.predicate in
     let rest = c.in_ok-rest-in-Func.rest in
     let given = c.in_ok-arguments-in-Func.arguments in
+    let answers = c.in_ok-answers-in-Func.answers in
+    let asked = c.deref-in-Func.result.now in
+    let called = c.deref-in-Func-2.result.now in
+    let same : asked ≡ called = c.deref-in-Func.ensures ∙ sym c.deref-in-Func-2.ensures in
     let shape = ap term_of c.in-Func.is ∙ term_of-Func c.in-Func.ident ns c.in-Func.predicate in
     let told : ChecksEachIn known rest ts = subst (λ xs. ChecksEachIn known rest (terms_of (map term_of xs))) c.deref.ensures.value c.in_ok-rest-in-Func.ensures.ok in
     let front = c.in_ok-arguments-in-Func.ensures in
     if-ok c.call_checked.result _ _ (
     λ d h s u keeps lit hu. subst (λ x. Checks d s (postfix (pipe x) u)) (sym shape) (
-    subst (λ k. Checks d s (postfix (pipe (call k ts p)) u)) c.deref-in-Func.ensures (
-    told-pipe given d s c.deref-in-Func.result.now p c.args.operand.now rest u ts (option_copied c.args.literal) lit front.kinds front.literals front.operand front.rest hu (told s keeps) (h s p keeps)
+    subst (λ k. Checks d s (postfix (pipe (call k ts p)) u)) c.deref-in-Func-2.ensures (
+    told-pipe given d s called p c.args.operand.now rest u ts (option_copied c.args.literal) lit front.kinds front.literals front.operand front.rest hu (told s keeps)
+    (h s p keeps (answers-at given s p asked called same known answers keeps c.in_ok-answers-in-Func.ensures.ok))
     )
     )
     ) c.call_checked.ensures.ok
 
 pub piped_checked-returns-in_default-clause-ok : goal.piped_checked-returns-in_default-clause-ok
 piped_checked-returns-in_default-clause-ok t c = λ s u keeps lit hu. c.unknown.ensures.tree s (postfix (pipe (term_of c.args.target.now)) u)
+
+-- the predicate of a call
+pub answers_checked-returns-in-Some-only_items-clause-ok : goal.answers_checked-returns-in-Some-only_items-clause-ok
+answers_checked-returns-in-Some-only_items-clause-ok t c =
+    let a = c.args.arguments.now in
+    let item = kind_view c.in-Some-only_items.item.now in
+    let kinds : map kind_view a.kinds ≡ array item ∷ [] = ap (map kind_view) (sym c.as_slice.ensures) ∙ c.in-Some-only_items.ensures in
+    let p = predicate_term c.args.predicate.now in
+    if-ok c.asked_answers.result _ _ (
+    λ o h. if-some o _ _ (λ d tells s keeps. told-predicate a s c.args.key.now p d c.in-Some.call item c.in-Some.ensures kinds (tells s keeps)) h
+    ) c.asked_answers.ensures.ok
+
+pub asked_answers-returns-in_ok-answer-in-Some-clause-ok : goal.asked_answers-returns-in_ok-answer-in-Some-clause-ok
+asked_answers-returns-in_ok-answer-in-Some-clause-ok t c = λ s keeps.
+    let known = known_scope c.args.known.now in
+    let item = kind_view c.args.item.now in
+    let inner = known_scope c.in_ok-inner-in-Some.inner in
+    let b = program_term c.in-Some.program.value in
+    let answer = c.in_ok-answer-in-Some.answer in
+    let told : ChecksBlockIn inner answer b = subst (λ n. ChecksBlockIn inner answer (program_term n)) c.deref.ensures c.in_ok-answer-in-Some.ensures.ok in
+    subst (λ o. TellsAnswers item s c.args.call (predicate_term o) answer) (sym c.in-Some.is) (told-answers known inner s item c.args.call b answer c.in_ok-inner-in-Some.ensures.ok keeps told)
+
+pub asked_answers-returns-in-None-clause-ok : goal.asked_answers-returns-in-None-clause-ok
+asked_answers-returns-in-None-clause-ok t c =
+    let item = kind_view c.args.item.now in
+    if-ok c.item_answers.result _ _ (
+    λ o h. if-some o _ _ (λ d tells s keeps. subst (λ q. TellsAnswers item s c.args.call (predicate_term q) d) (sym c.in-None.is) (tells s)) h
+    ) c.item_answers.ensures.ok
 
 -- the items of an array
 pub node_checked-returns-in-Array-clause-ok : goal.node_checked-returns-in-Array-clause-ok
@@ -303,17 +345,25 @@ array_checked-returns-clause-ok t c = λ s keeps e covers.
     (array k, list-typed e s (terms_of (map term_of ns)) k all, fits-same (array k) (kind_view c.in_ok-kind.kind) (sym c.in_ok-kind.ensures.ok))
 
 -- the arguments of a call
-pub node_checked-returns-in_ok-arguments-in-Func-clause-ok : goal.node_checked-returns-in_ok-arguments-in-Func-clause-ok
-node_checked-returns-in_ok-arguments-in-Func-clause-ok t c =
+pub node_checked-returns-in_ok-answers-in-Func-clause-ok : goal.node_checked-returns-in_ok-answers-in-Func-clause-ok
+node_checked-returns-in_ok-answers-in-Func-clause-ok t c =
     let known = known_scope c.args.known.now in
     let ns = c.in-Func.args in
     let ts = terms_of (map term_of ns.items) in
     let p = predicate_term c.in-Func.predicate in
     let given = c.in_ok-arguments-in-Func.arguments in
+    let answers = c.in_ok-answers-in-Func.answers in
+    let asked = c.deref-in-Func-2.result.now in
+    let called = c.deref-in-Func-3.result.now in
+    let same : asked ≡ called = c.deref-in-Func-2.ensures ∙ sym c.deref-in-Func-3.ensures in
     let shape = ap term_of c.in-Func.is ∙ term_of-Func c.in-Func.ident ns c.in-Func.predicate in
     let told : ChecksEachIn known given ts = subst (λ xs. ChecksEachIn known given (terms_of (map term_of xs))) c.deref-in-Func.ensures.value c.in_ok-arguments-in-Func.ensures.ok in
     if-ok c.call_checked.result _ _ (
-    λ d h s keeps. subst (λ u. Checks d s u) (sym shape) (subst (λ k. Checks d s (call k ts p)) c.deref-in-Func-2.ensures (told-call given d s c.deref-in-Func-2.result.now p ts (told s keeps) (h s p keeps)))
+    λ d h s keeps. subst (λ u. Checks d s u) (sym shape) (
+    subst (λ k. Checks d s (call k ts p)) c.deref-in-Func-3.ensures (
+    told-call given d s called p ts (told s keeps) (h s p keeps (answers-at given s p asked called same known answers keeps c.in_ok-answers-in-Func.ensures.ok))
+    )
+    )
     ) c.call_checked.ensures.ok
 
 pub arguments_checked-loop-node-init : goal.arguments_checked-loop-node-init

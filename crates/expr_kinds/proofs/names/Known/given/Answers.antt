@@ -14,6 +14,7 @@ returns-in-Some c =
 pub returns-in-None : goal.returns-in-None
 returns-in-None c =
     let s = scope_of c.args.self.now.schema.now in
-    if-some c.required_kind.result _ _ (
-    λ k h. subst (λ bs. given_at (with_bound bs s).names c.args.name.now ≡ given_at s.names c.args.name.now) c.deref.ensures.value (c.in-None.ensures s) ∙ h
-    ) c.required_kind.ensures
+    let n = c.args.name.now in
+    if-some c.required_field.result _ _ (
+    λ k h. subst (λ bs. given_at (with_bound bs s).names n ≡ given_at s.names n) c.deref.ensures.value (c.in-None.ensures s).0 ∙ subst (λ fs. given_at fs n ≡ Some (kind_view k.now)) c.names.ensures h
+    ) c.required_field.ensures
