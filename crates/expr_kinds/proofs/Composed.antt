@@ -1,5 +1,5 @@
 -- What a check tells of the forms that have parts, by what it tells of the parts.
-use Rattle.std.proofs.Common.{◌≡◌, ℕ, List, Bool, true, false, refl, inl, inr}
+use Rattle.std.proofs.Common.{ℕ, List, Bool, true, false, refl, inl, inr}
 use Rattle.expr_tree.specs.Term.{Term, literal, list, range, postfix, choice, index, coalesce, ternary, Terms, no_terms, term, Block}
 use Rattle.expr_value.specs.declared.value.Value as value
 use Rattle.expr_schema.specs.Kinds.{Kind, any, bool, integer, bytes, array, map, keyed, nilable, Fields, Fits, Effect}

@@ -1,5 +1,5 @@
 -- What a check tells of a tree, by what it tells of the parts.
-use Rattle.std.proofs.Common.{◌≡◌, ℕ, List, [], ◌∷◌, Bool, true, false, Option, Some, None, MatchBool, Result, Ok, Err, IfOk, IfSome, bytes_eq, codes, refl, sym, subst, inl, inr}
+use Rattle.std.proofs.Common.{◌≡◌, ℕ, List, [], ◌∷◌, true, false, Option, Some, None, MatchBool, Result, Ok, Err, IfOk, IfSome, bytes_eq, codes, refl, sym, subst, inl, inr}
 use Rattle.expr_error.specs.ErrorKind.{evaluation, pattern}
 use Rattle.expr_functions.specs.Strictness.{operator_strictness}
 use Rattle.expr_functions.specs.declared.operator.Operator.{Operator}

@@ -15,7 +15,7 @@ use Rattle.expr_kinds.specs.BuiltinRows.{AreFirst, HasMethod, TellsBuiltin, Tell
 use Rattle.expr_kinds.specs.Causes.{Literals, effect_under}
 use Rattle.expr_kinds.specs.Checks.{Checks, ChecksBound, ChecksEach, KeepsKind, SideFits, TellsCall, cause_view, literals_view}
 use Rattle.expr_kinds.specs.Effects.{CoversEffect}
-use Rattle.expr_kinds.specs.Overloads.{Overload, overloads}
+use Rattle.expr_kinds.specs.Overloads.{overloads}
 use Rattle.expr_kinds.specs.Typed.{AllFit, BuiltinGives, ByOverload, BySignature, CallGives, MethodGives, OneOf, Typed, TypedPredicate, Unknown, Within, literal_of, literals_of}
 use Rattle.expr_kinds.specs.declared.checked.CheckedArguments.{CheckedArguments}
 use Rattle.expr_kinds.specs.declared.checked.Checked.{Checked}

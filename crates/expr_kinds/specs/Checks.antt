@@ -6,7 +6,7 @@ use Rattle.expr_meaning.specs.Allows.{is_given}
 use Rattle.expr_tree.specs.Term.{Block, Bound, Postfix, Predicate, Term, Terms, postfix}
 use Rattle.expr_value.specs.declared.value.Value.{Value}
 use Rattle.expr_schema.specs.KindView.{kind_view}
-use Rattle.expr_schema.specs.Kinds.{Kind, any, never, nil, bool, integer, string, bytes, duration, month, weekday, datetime, timezone, array, map, keyed, nilable, Fields, others, Fits, HasKind, Effect}
+use Rattle.expr_schema.specs.Kinds.{Kind, any, never, nil, bool, integer, string, bytes, duration, month, weekday, datetime, timezone, array, map, keyed, nilable, others, Fits, HasKind, Effect}
 use Rattle.expr_schema.specs.SchemaView.{effect_of, scope_of}
 use Rattle.expr_schema.specs.Scopes.{Scope}
 use Rattle.expr_kinds.specs.Causes as cause

@@ -1,6 +1,5 @@
-use Rattle.std.proofs.Common.{◌≡◌, sym, ap, ◌∙◌}
-use Rattle.expr_schema.specs.Kinds.{array, any, keyed, map, others, never, nil, bool, integer, string, bytes, duration, month, weekday, datetime, timezone}
-use Rattle.expr_schema.specs.KindView.{kind_view}
+use Rattle.std.proofs.Common.{sym, ap, ◌∙◌}
+use Rattle.expr_schema.specs.Kinds.{array, keyed, map, others}
 use Rattle.expr_schema.proofs.Shapes.{kind_view-Never, kind_view-Nil, kind_view-Bool, kind_view-Integer, kind_view-String, kind_view-Bytes, kind_view-Duration, kind_view-Month, kind_view-Weekday, kind_view-DateTime, kind_view-Timezone, kind_view-Any}
 use Rattle.expr_kinds.specs.Checks.{base_kind}
 use Rattle.expr_kinds.proofs.bases.kind_of_base.Goals as goal

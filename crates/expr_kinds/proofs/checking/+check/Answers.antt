@@ -1,4 +1,4 @@
-use Rattle.std.proofs.Common.{◌≡◌, ◌==◌, ◌++◌, ◌+◌, ◌≤◌, Bool, true, false, List, [], ◌∷◌, Option, Some, None, length, map, drop, get_or, Box, Vec, String, Global, string_bytes, inl, vec_len, append-nil, refl, sym, ap, ◌∙◌, subst, arith, rules}
+use Rattle.std.proofs.Common.{◌≡◌, ◌==◌, ◌++◌, ◌+◌, ◌≤◌, Bool, true, false, List, [], ◌∷◌, length, map, drop, get_or, Box, Vec, String, Global, string_bytes, inl, vec_len, append-nil, refl, sym, ap, ◌∙◌, subst, arith, rules}
 use Rattle.std.specs.Option.{option_copied}
 use Rattle.std.proofs.lemmas.Bool.{eqb-true}
 use Rattle.std.proofs.lemmas.List.{drop_all}
@@ -9,18 +9,16 @@ use Rattle.expr_tree.specs.declared.node.Node.TheShapes.{weighed-Node-Map-0-at-2
 use Rattle.expr_tree.proofs.node.Node.TheLaws.{the_size}
 use Rattle.expr_tree.proofs.Programs.{term_of-parts}
 use Rattle.expr_tree.proofs.Shapes.{term_of-Array, term_of-Conditional, term_of-Func, term_of-Ident, term_of-Index, term_of-Map, term_of-Method, term_of-Operation, term_of-Postfix, term_of-Range, term_of-Slice, term_of-Ternary, term_of-Unary, term_of-Value}
-use Rattle.expr_tree.specs.Term.{Term, name, list, mapping, call, postfix, index, slice, pipe, method, coalesce, answers, block_with, term_pairs}
+use Rattle.expr_tree.specs.Term.{name, list, mapping, call, postfix, index, pipe, method, coalesce, answers, block_with, term_pairs}
 use Rattle.expr_tree.specs.TermOf.{bound_term, line_term, postfix_term, predicate_term, program_term, term_of, terms_of}
 use Rattle.expr_tree.specs.declared.node.Node.{Node, the_lemmas}
 use Rattle.expr_tree.specs.declared.node.PostfixOperator.TheVariants as behind
-use Rattle.expr_schema.specs.Kinds.{Effect, Kind, array, integer, map as a_map, field, no_others, HasKind, SameFields, StandsAt}
+use Rattle.expr_schema.specs.Kinds.{array, integer, map as a_map, field, no_others, HasKind, SameFields, StandsAt}
 use Rattle.expr_schema.specs.KindView.{Entry, fields_view, kind_view}
 use Rattle.expr_schema.specs.SchemaView.{effect_of}
 use Rattle.expr_kinds.specs.Checks.{Checks, ChecksBlock, ChecksBlockIn, ChecksBound, ChecksEachIn, ChecksIn, Upholds, known_scope, literals_view}
-use Rattle.expr_kinds.specs.Effects.{CoversEffect}
 use Rattle.expr_kinds.specs.Narrowing.{after, assuming}
 use Rattle.expr_kinds.specs.Scopes.{bind_kind}
-use Rattle.expr_schema.specs.Scopes.{Scope}
 use Rattle.expr_kinds.specs.Typed.{Typed, TypedAll, TypedBlock, TypedBound, TypedEach, TypedPairs, literal_of, literals_of}
 use Rattle.expr_kinds.proofs.Composed.{list-typed}
 use Rattle.expr_kinds.proofs.Judged.{covers-through, fits-same, if-ok, within-fits}

@@ -1,4 +1,4 @@
-use Rattle.std.proofs.Common.{◌≡◌, ℕ, Bool, false, Option, Some, None, option_and_then, option_map, slice_get, unwrap_or, sym, ap, ◌∙◌}
+use Rattle.std.proofs.Common.{◌≡◌, ℕ, Bool, false, Some, None, option_and_then, option_map, slice_get, unwrap_or, sym, ap, ◌∙◌}
 use Rattle.expr_value.specs.declared.value.Value.{Value}
 use Rattle.expr_kinds.specs.Causes.{Literals, is_direction, is_excluded, is_not_negative, is_other_than_zero, literal_passes}
 use Rattle.expr_kinds.specs.Checks.{cause_view, literals_view}

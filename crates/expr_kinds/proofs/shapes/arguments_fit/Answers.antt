@@ -1,4 +1,4 @@
-use Rattle.std.proofs.Common.{◌≡◌, ◌+◌, [], ◌∷◌, map, drop, sym, subst}
+use Rattle.std.proofs.Common.{◌+◌, [], map, drop, sym, subst}
 use Rattle.std.proofs.lemmas.List.{drop_all}
 use Rattle.expr_schema.specs.KindView.{kind_view}
 use Rattle.expr_kinds.specs.BuiltinRows.{shape_kind, taken_kinds}

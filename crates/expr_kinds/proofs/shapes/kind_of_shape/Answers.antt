@@ -1,4 +1,4 @@
-use Rattle.std.proofs.Common.{◌≡◌, sym, ap, ◌∙◌}
+use Rattle.std.proofs.Common.{sym, ap, ◌∙◌}
 use Rattle.expr_schema.specs.Kinds.{array, keyed, map, nilable, others}
 use Rattle.expr_schema.specs.KindView.{kind_view}
 use Rattle.expr_schema.proofs.Shapes.{kind_view-Any}
