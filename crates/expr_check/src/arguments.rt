@@ -13,6 +13,9 @@ Each line is a rule, unless it is blank or begins with //. With --whole each fil
 A rule that doesn't compile is reported on standard error, with its line, its column and a caret.
 No file is changed. A normal form has no comments. The limits are those for untrusted expressions.
 
+Files come before --explain. It writes what a rule returns, and each part that was evaluated, with its
+line, its column, its text and its value.
+
 Status: 0 if each rule compiles, 1 if there is no rule, 2 for wrong arguments, 3 if a rule doesn't
 compile, 4 if something can't be read or written.";
 
@@ -22,6 +25,8 @@ pub struct CheckArguments<'a> {
     /// Names of files. The name `-` is standard input.
     pub files: Vec<&'a str>,
     pub manner: Manner,
+    /// The arguments `NAME=CODE` of `--explain`, if that is given.
+    pub explains: Option<Vec<&'a str>>,
 }
 
 /// An option without a value, with its name and its letter.
@@ -31,6 +36,18 @@ fn flag<'a>(alloc: Global, name: &'a str, letter: char, help: &'a str) -> Arg<'a
         .long(name)
         .action(ArgAction::SetTrue)
         .help(help)
+}
+
+/// The option that has rules explained, with the names that they see.
+fn explain_option<'a>(alloc: Global) -> Result<Arg<'a>, AllocError> {
+    Arg::new(alloc, "explain")
+        .short('e')
+        .long("explain")
+        .value_name("NAME=CODE")
+        .num_args(0..)
+        .action(ArgAction::Append)
+        .help("Run each rule, where each NAME has the value of CODE, and write what its parts gave")
+        .conflicts_with("json")
 }
 
 /// An option that turns limits on or off. The last of them counts.
@@ -52,7 +69,8 @@ fn with_wishes<'a>(alloc: Global, command: Command<'a>) -> Result<Command<'a>, A
         .arg(flag(alloc, "whole", 'w', whole))?
         .arg(flag(alloc, "print", 'p', print))?
         .arg(flag(alloc, "names", 'a', names))?
-        .arg(flag(alloc, "json", 'j', json))
+        .arg(flag(alloc, "json", 'j', json))?
+        .arg(explain_option(alloc)?)
 }
 
 /// The command line.
@@ -73,6 +91,21 @@ fn command<'a>(alloc: Global) -> Result<Command<'a>, AllocError> {
         .arg(limits_option(alloc, "no-limits", off)?)
 }
 
+/// How high the tree of a rule may be that is explained, since that takes stack for each level.
+const EXPLAINED_HEIGHT: usize = 1_000;
+
+/// The limits of rules, if there are any.
+fn limits_of(matches: &ArgMatches) -> Option<Limits> {
+    if matches.get_flag("no-limits") {
+        return None;
+    }
+    let mut limits = Limits::untrusted();
+    if matches.contains_id("explain") {
+        limits.nesting = EXPLAINED_HEIGHT;
+    }
+    Some(limits)
+}
+
 /// How to check, and how to tell what was found.
 fn manner_of(matches: &ArgMatches) -> Manner {
     Manner {
@@ -81,11 +114,7 @@ fn manner_of(matches: &ArgMatches) -> Manner {
         } else {
             Layout::Lines
         },
-        limits: if matches.get_flag("no-limits") {
-            None
-        } else {
-            Some(Limits::untrusted())
-        },
+        limits: limits_of(matches),
         wishes: Wishes {
             text: matches.get_flag("print"),
             needs: matches.get_flag("names"),
@@ -94,15 +123,30 @@ fn manner_of(matches: &ArgMatches) -> Manner {
     }
 }
 
-/// The names of the files.
-fn files_of<'a>(alloc: Global, matches: &ArgMatches<'a>) -> Result<Vec<&'a str>, AllocError> {
-    let mut files = Vec::new(alloc);
-    if let Some(given) = matches.get_strs("FILE") {
-        for file in given {
-            files.push(*file)?;
+/// The words behind an option or an operand.
+fn words_of<'a>(
+    alloc: Global,
+    matches: &ArgMatches<'a>,
+    id: &str,
+) -> Result<Vec<&'a str>, AllocError> {
+    let mut words = Vec::new(alloc);
+    if let Some(given) = matches.get_strs(id) {
+        for word in given {
+            words.push(*word)?;
         }
     }
-    Ok(files)
+    Ok(words)
+}
+
+/// The arguments of `--explain`, if it is given.
+fn explains_of<'a>(
+    alloc: Global,
+    matches: &ArgMatches<'a>,
+) -> Result<Option<Vec<&'a str>>, AllocError> {
+    if !matches.contains_id("explain") {
+        return Ok(None);
+    }
+    Ok(Some(words_of(alloc, matches, "explain")?))
 }
 
 impl<'a> CheckArguments<'a> {
@@ -114,8 +158,9 @@ impl<'a> CheckArguments<'a> {
     pub fn read(alloc: Global, words: &'a [String]) -> Result<CheckArguments<'a>, Error> {
         let matches = command(alloc)?.try_get_matches_from(words)?;
         Ok(CheckArguments {
-            files: files_of(alloc, &matches)?,
+            files: words_of(alloc, &matches, "FILE")?,
             manner: manner_of(&matches),
+            explains: explains_of(alloc, &matches)?,
         })
     }
 }

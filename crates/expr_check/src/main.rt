@@ -7,10 +7,14 @@ ghost use Rattle.expr_rules.specs.Reports.{program_status};
 ghost use Rattle.expr_rules.specs.declared.checking.Totals.{Totals};
 
 mod arguments;
+mod names;
 
 use arguments::CheckArguments;
-use expr_rules::{CheckReport, Totals, check_text};
-use std::alloc::AllocError;
+use expr_context::Context;
+use expr_reasons::text_reasons;
+use expr_rules::{CheckReport, Manner, Totals, check_text};
+use names::names_of;
+use std::alloc::{AllocError, Global};
 use std::io::{self, ErrorKind, Write};
 use std::process::ExitCode;
 use std::{env, fs};
@@ -43,14 +47,25 @@ fn main(rt: HostRuntime) -> ExitCode {
     }
 }
 
-/// Checks the files, and returns the status.
-fn run(rt: &HostRuntime, arguments: &CheckArguments) -> u8
+/// Does what the arguments ask for, and returns the status.
+fn run(rt: &HostRuntime, arguments: &CheckArguments) -> u8 {
+    let Some(words) = &arguments.explains else {
+        return check_files(rt, arguments, None);
+    };
+    match names_of(rt.alloc(), words, arguments.manner.limits, &mut rt.stderr()) {
+        Some(names) => check_files(rt, arguments, Some(&names)),
+        None => USAGE,
+    }
+}
+
+/// Checks the files, and explains their rules if there are names for them. Returns the status.
+fn check_files(rt: &HostRuntime, arguments: &CheckArguments, names: Option<&Context>) -> u8
     ensures { (totals : Totals) × (has_failed : Bool) × (result ≡ program_status totals has_failed) }
 {
     let mut totals = Totals::new();
     let mut has_failed = false;
     for name in &arguments.files {
-        match check_file(rt, arguments, *name, totals) {
+        match check_file(rt, arguments, names, *name, totals) {
             Ok(report) => {
                 totals = report.totals;
                 if let Err(error) = tell(&mut rt.stdout(), &mut rt.stderr(), &report) {
@@ -70,10 +85,11 @@ fn run(rt: &HostRuntime, arguments: &CheckArguments) -> u8
     totals.status(has_failed)
 }
 
-/// Checks the rules of a file. The name `-` is standard input.
+/// Checks the rules of a file, and explains them if there are names for them. The name `-` is standard input.
 fn check_file(
     rt: &HostRuntime,
     arguments: &CheckArguments,
+    names: Option<&Context>,
     name: &str,
     totals: Totals,
 ) -> io::Result<CheckReport> {
@@ -82,7 +98,27 @@ fn check_file(
     } else {
         fs::read_to_string(rt, name)?
     };
-    Ok(check_text(rt.alloc(), name, &text, &arguments.manner, totals)?)
+    let manner = &arguments.manner;
+    let mut report = check_text(rt.alloc(), name, &text, manner, totals)?;
+    if let Some(names) = names {
+        add_reasons(rt.alloc(), &mut report, name, &text, manner, names)?;
+    }
+    Ok(report)
+}
+
+/// Adds what the rules of a text return with these names, and why.
+fn add_reasons(
+    alloc: Global,
+    report: &mut CheckReport,
+    name: &str,
+    text: &str,
+    manner: &Manner,
+    names: &Context,
+) -> Result<(), AllocError> {
+    match text_reasons(alloc, name, manner.layout, text, names, manner.limits) {
+        Ok(reasons) => report.out.push_str(&reasons),
+        Err(_) => Err(AllocError),
+    }
 }
 
 /// Writes what was found.
