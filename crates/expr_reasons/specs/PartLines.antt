@@ -29,14 +29,18 @@ abbrev pub finding_text : PartFinding → List ℕ
 finding_text (finding.Value v) = text_of v ++ 10 ∷ []
 finding_text finding.Failed = codes "failed" ++ 10 ∷ []
 
--- The line of a part: where the node of its number begins, its text in the normal form, and what it gave.
+-- the text of a part in the normal form, and what it gave
+abbrev pub part_text : Told → List ℕ
+part_text part = program_text (answers (term_of part.node.now)) ++ (codes ": " ++ finding_text part.finding)
+
+-- The line of a part: where the node of its number begins, and its text.
 pub record IsPartLine (rule : RuleSource) (part : Told) (written : List ℕ) : Type 0 where
   pub place : Place
   pub stands : slice_get rule.places.now part.number ≡ Some place
   pub at : LineColumn
   pub is_at : IsLineColumn rule.text.now place.start at
   pub line : written ≡ line_head rule.file.now (min (rule.line + (at.line - 1)) (2 ^ 64 - 1))
-      ++ (decimal at.column ++ (codes ": " ++ (program_text (answers (term_of part.node.now)) ++ (codes ": " ++ finding_text part.finding))))
+      ++ (decimal at.column ++ (codes ": " ++ part_text part))
 
 -- what is written of each of these, in order
 abbrev pub AreWritten : {A : Type 0} → (A → List ℕ → Type 0) → List A → List ℕ → Type 0

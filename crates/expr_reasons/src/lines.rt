@@ -61,12 +61,7 @@ pub fn write_parts(
 }
 
 /// Writes the line of a part.
-fn write_part(
-    alloc: Global,
-    out: &mut String,
-    rule: RuleSource<'_>,
-    part: &Told<'_>,
-) -> Result<()>
+fn write_part(alloc: Global, out: &mut String, rule: RuleSource<'_>, part: &Told<'_>) -> Result<()>
     ensures { OnOk result ((written : List ℕ) × IsPartLine rule.entry part.now written
         × (string_bytes out.new ≡ string_bytes out.old ++ written)) }
 {

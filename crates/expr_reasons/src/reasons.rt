@@ -91,12 +91,7 @@ fn limit_text(
 }
 
 /// The lines of a rule that compiles: what it returns with these names, and what its parts gave.
-fn explained_text(
-    alloc: Global,
-    file: &str,
-    rule: RuleText<'_>,
-    names: &Context,
-) -> Result<String>
+fn explained_text(alloc: Global, file: &str, rule: RuleText<'_>, names: &Context) -> Result<String>
     ensures { IfOk result (λ s. AreReasons file.now rule.entry.text.now rule.entry.line names.now
         (string_bytes s)) }
 {

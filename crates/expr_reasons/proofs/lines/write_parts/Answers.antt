@@ -13,10 +13,9 @@ loop-part-preserved c =
     let i = c.loop-part.part-index in
     let p = c.part-item.result in
     let before = c.loop-part.invariant in
-    let one = c.in_ok-write_part.ensures in
-    (
+    let one = c.in_ok-write_part.ensures in (
       before.0 ++ one.0,
       subst (λ l. AreWritten (IsPartLine c.args.rule) l (before.0 ++ one.0)) (sym (take_more ps i p c.loop-part-test.true ∙ ap (λ n. take i ps ++ n ∷ []) (sym c.part-item.is)))
-        (written_more (IsPartLine c.args.rule) (take i ps) p before.0 one.0 before.1 one.1),
-      one.2 ∙ ap (λ l. l ++ one.0) before.2 ∙ append_assoc _ before.0 one.0
+          (written_more (IsPartLine c.args.rule) (take i ps) p before.0 one.0 before.1 one.1),
+      one.2 ∙ ap (λ l. l ++ one.0) before.2 ∙ append_assoc _ before.0 one.0,
     )

@@ -13,4 +13,4 @@ loop-rule-preserved c =
     let told = IsToldOfRule c.args.limits c.args.names.now c.args.file.now in
     subst (λ l. AreWritten told l (string_bytes c.push_str.new.self)) (sym (ap (map numbered_text) (take_more rs i _ c.loop-rule-test.true) ∙ map-append numbered_text (take i rs) (_ ∷ [])))
     (subst (λ s. AreWritten told (map numbered_text (take i rs) ++ _ ∷ []) s) (sym c.in_ok-push_str.ensures)
-      (written_more told (map numbered_text (take i rs)) _ (string_bytes c.loop-rule.out) (string_bytes c.in_ok-rule_reasons.field-0) c.loop-rule.invariant c.in_ok-rule_reasons.ensures))
+    (written_more told (map numbered_text (take i rs)) _ (string_bytes c.loop-rule.out) (string_bytes c.in_ok-rule_reasons.field-0) c.loop-rule.invariant c.in_ok-rule_reasons.ensures))
