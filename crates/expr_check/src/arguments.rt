@@ -46,7 +46,7 @@ fn explain_option<'a>(alloc: Global) -> Result<Arg<'a>, AllocError> {
         .value_name("NAME=CODE")
         .num_args(0..)
         .action(ArgAction::Append)
-        .help("Run each rule, where each NAME has the value of CODE, and write what its parts gave")
+        .help("Run each rule with these names, and write what its parts gave")
         .conflicts_with("json")
 }
 
