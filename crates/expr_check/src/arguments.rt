@@ -47,7 +47,8 @@ fn explain_option<'a>(alloc: Global) -> Result<Arg<'a>, AllocError> {
         .num_args(0..)
         .action(ArgAction::Append)
         .help("Run each rule with these names, and write what its parts gave")
-        .conflicts_with("json")
+        .conflicts_with("json")?
+        .conflicts_with("no-limits")
 }
 
 /// An option that turns limits on or off. The last of them counts.
